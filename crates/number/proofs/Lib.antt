@@ -1,0 +1,6 @@
+pub mod Decimals
+pub mod Examples
+pub mod Places
+pub mod Powers
+pub mod Rounding
+pub mod Runs
