@@ -1,0 +1,111 @@
+-- Laws of lengths that callers rely on. A number of samples is within the limit; a time that is not negative has one or is too long; a shorter time
+-- has no more samples than a longer one, so a note that is not too long with its release is not too long without. Assumes nothing.
+use mathlib.Core.Path.{_≡_, refl}
+use mathlib.Core.Logic.{_⊎_, inl, inr}
+use mathlib.Core.Bool.{Bool, true, false}
+use Prim.Native.Nat.{ℕ, _*_, _≤_, _<_}
+use native.Mathlib.Omega.{arith}
+use lib.Dec.{T, leb, eqb, ltb→lt}
+use lib.IntN.{ℤ, pos}
+use lib.Ieee.{Float, nan, inf, fin, binary32, up, down, le, add, mul, ofInt, fits}
+use lib.Ieee.Fits.{down-pos}
+use lib.Ieee.Positive.{positive, positive-of-value}
+use borrow.Author.Tests.{leb-true}
+use Rattle.tone.specs.declared.time.Length.{Length}
+use Rattle.tone.specs.declared.time.Length.the-variants.{Samples, Negative, TooMany}
+use Rattle.tone.specs.Time.{ceiling, countOf, lengthOf, noteMost}
+use Rattle.tone.proofs.Counts.{ceiling-grows, counted, whole-value}
+use Rattle.tone.proofs.Nonnegative.{nonnegative, le-fractions, times-nonnegative, times-grows, add-nonnegative, add-grows}
+
+-- ---- what a number of samples says
+
+within-limit : (k n : ℕ) (b : Bool) → leb k noteMost ≡ b → (elim b as (λ x. Length) [ true ↦ Samples k | false ↦ TooMany ]) ≡ Samples n → (k ≡ n) × (n ≤ noteMost)
+within-limit k n true t q = let z : k ≡ n = cc in (z, omega (arith, leb-true))
+within-limit k n false t q = let z : _≡_ {A = ℕ} 0 1 = cc in absurd (omega arith)
+
+-- it is the ceiling, and within the limit
+samples-is : (m n : ℕ) (e : ℤ) → countOf (fin false m e) ≡ Samples n → (ceiling (m * up e) (down e) ≡ n) × (n ≤ noteMost)
+unfolding countOf
+samples-is m n e h = within-limit (ceiling (m * up e) (down e)) n (leb (ceiling (m * up e) (down e)) noteMost) refl h
+
+only-zero : (n : ℕ) (b : Bool) → (elim b as (λ x. Length) [ true ↦ Samples 0 | false ↦ Negative ]) ≡ Samples n → n ≤ noteMost
+only-zero n true q = let z : 0 ≡ n = cc in omega arith
+only-zero n false q = let z : _≡_ {A = ℕ} 0 1 = cc in omega arith
+
+count-most : (x : Float) (n : ℕ) → countOf x ≡ Samples n → n ≤ noteMost
+unfolding countOf
+count-most nan n h = let z : _≡_ {A = ℕ} 0 1 = cc in omega arith
+count-most (inf true) n h = let z : _≡_ {A = ℕ} 0 1 = cc in omega arith
+count-most (inf false) n h = let z : _≡_ {A = ℕ} 0 1 = cc in omega arith
+count-most (fin true m e) n h = only-zero n (eqb m 0) h
+count-most (fin false m e) n h = samples-is m n e h .1
+
+-- no length is over the limit
+pub length-most : (rate : ℕ) (x : Float) (n : ℕ) → lengthOf rate x ≡ Samples n → n ≤ noteMost
+unfolding lengthOf
+length-most rate x n h = count-most (mul binary32 x (ofInt binary32 (pos rate))) n h
+
+-- ---- times that are not negative
+
+one-of : (k : ℕ) (b : Bool) (l : Length) → l ≡ (elim b as (λ x. Length) [ true ↦ Samples k | false ↦ TooMany ]) → (l ≡ TooMany) ⊎ ((n : ℕ) × (l ≡ Samples n))
+one-of k true l h = inr (k, h)
+one-of k false l h = inl h
+
+count-answers : (x : Float) → T (nonnegative x) → (countOf x ≡ TooMany) ⊎ ((n : ℕ) × (countOf x ≡ Samples n))
+unfolding countOf
+count-answers nan h = absurd h
+count-answers (inf true) h = absurd h
+count-answers (inf false) h = inl refl
+count-answers (fin true m e) h = absurd h
+count-answers (fin false m e) h = one-of (ceiling (m * up e) (down e)) (leb (ceiling (m * up e) (down e)) noteMost) _ refl
+
+never-ends : (b : ℕ) → countOf (inf false) ≡ Samples b → ⊥
+unfolding countOf
+never-ends b s = let z : _≡_ {A = ℕ} 0 1 = cc in omega arith
+
+count-grows : (x y : Float) (b : ℕ) → T (nonnegative x) → T (nonnegative y) → T (le x y) → countOf y ≡ Samples b → (a : ℕ) × (countOf x ≡ Samples a) × (a ≤ b)
+count-grows x nan b h i l s = absurd i
+count-grows x (inf true) b h i l s = absurd i
+count-grows x (inf false) b h i l s = absurd (never-ends b s)
+count-grows x (fin true n d) b h i l s = absurd i
+count-grows nan (fin false n d) b h i l s = absurd h
+count-grows (inf true) (fin false n d) b h i l s = absurd h
+count-grows (inf false) (fin false n d) b h i l s = absurd (unfold le in l)
+count-grows (fin true m e) (fin false n d) b h i l s = absurd h
+count-grows (fin false m e) (fin false n d) b h i l s =
+    let g = ceiling-grows (m * up e) (down e) (n * up d) (down d) (down-pos e) (down-pos d) (le-fractions m n e d l) in
+    let k = samples-is n b d s in
+    (ceiling (m * up e) (down e), counted m e (omega arith), omega arith)
+
+form : (r : Float) → T (positive r) → (p : ℕ) × (g : ℤ) × (0 < p) × (r ≡ fin false p g)
+form nan h = absurd h
+form (inf s) h = absurd h
+form (fin true p g) h = absurd h
+form (fin false p g) h = (p, g, ltb→lt 0 p h, refl)
+
+-- at any rate that an f32 counts without a gap
+module _ (rate : ℕ) (r : 0 < rate) (r' : rate ≤ noteMost) where
+  rate-is : (p : ℕ) × (g : ℤ) × (0 < p) × (ofInt binary32 (pos rate) ≡ fin false p g)
+  rate-is = form (ofInt binary32 (pos rate)) (positive-of-value (ofInt binary32 (pos rate)) rate 1 (whole-value rate r') r)
+
+  product-nonnegative : (x : Float) → T (nonnegative x) → T (nonnegative (mul binary32 x (ofInt binary32 (pos rate))))
+  product-nonnegative x h = rw (rate-is .3) (times-nonnegative binary32 _ _ (rate-is .2) x h)
+
+  -- a time that is not negative has a number of samples, or is too long
+  pub length-answers : (x : Float) → T (nonnegative x) → (lengthOf rate x ≡ TooMany) ⊎ ((n : ℕ) × (lengthOf rate x ≡ Samples n))
+  unfolding lengthOf
+  length-answers x h = count-answers (mul binary32 x (ofInt binary32 (pos rate))) (product-nonnegative x h)
+
+  -- of two such times the shorter has no more samples
+  pub length-grows : (x y : Float) (n : ℕ) → T (nonnegative x) → T (nonnegative y) → T (le x y) → lengthOf rate y ≡ Samples n
+      → (m : ℕ) × (lengthOf rate x ≡ Samples m) × (m ≤ n)
+  unfolding lengthOf
+  length-grows x y n h i l s =
+      count-grows (mul binary32 x (ofInt binary32 (pos rate))) (mul binary32 y (ofInt binary32 (pos rate))) n (product-nonnegative x h) (product-nonnegative y i)
+      (rw (rate-is .3) (times-grows binary32 _ _ (rate-is .2) x y h i l)) s
+
+  -- so a note has no more samples without its release than with it
+  pub length-with-release : (duration release : Float) (n : ℕ) → T (fits binary32 duration) → T (nonnegative duration) → T (nonnegative release)
+      → lengthOf rate (add binary32 duration release) ≡ Samples n → (m : ℕ) × (lengthOf rate duration ≡ Samples m) × (m ≤ n)
+  length-with-release duration release n t h i s =
+      length-grows duration (add binary32 duration release) n h (add-nonnegative binary32 duration release h i) (add-grows binary32 duration release t h i) s

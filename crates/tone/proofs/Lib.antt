@@ -1,0 +1,6 @@
+pub mod Counts
+pub mod Durations
+pub mod Examples
+pub mod Lengths
+pub mod Nonnegative
+pub mod Powers
