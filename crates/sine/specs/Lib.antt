@@ -1,0 +1,3 @@
+pub mod Quarter
+pub mod Turn
+pub mod Phase
