@@ -58,7 +58,7 @@ le-inf (inf false) h = tt
 le-inf (fin true m e) h = absurd h
 le-inf (fin false m e) h = tt
 
-less-or-equal : (a b : ℕ) (s t : Bool) → (T s → a < b) → (T t → a ≡ b) → T (s || (t && true)) → a ≤ b
+pub less-or-equal : (a b : ℕ) (s t : Bool) → (T s → a < b) → (T t → a ≡ b) → T (s || (t && true)) → a ≤ b
 less-or-equal a b true t f g h = le-of-lt (f tt)
 less-or-equal a b false true f g h = le-of-eq (g tt)
 less-or-equal a b false false f g h = absurd h
@@ -137,9 +137,9 @@ exponent-le : (i j : ℕ) → 2 ^ i ≤ 2 ^ j → i ≤ j
 exponent-le i j h = le-of-suc-le-suc (lt-of-not-le (λ (g : suc j ≤ i). not-le-of-lt (pow-lt g) h))
 
 -- in units of the format's smallest value a power of two is a power of two
-scale : (l : ℕ) (e : ℤ) → down e ≤ 2 ^ l → (j : ℕ) × (2 ^ j * down e ≡ up e * 2 ^ l)
-scale l (pos k) h = (k + l, mul-one (2 ^ (k + l)) ∙ pow-add 2 k l)
-scale l (negsuc k) h =
+pub in-units : (l : ℕ) (e : ℤ) → down e ≤ 2 ^ l → (j : ℕ) × (2 ^ j * down e ≡ up e * 2 ^ l)
+in-units l (pos k) h = (k + l, mul-one (2 ^ (k + l)) ∙ pow-add 2 k l)
+in-units l (negsuc k) h =
     let j = l - suc k in
     (j, sym (pow-add 2 j (suc k)) ∙ ap (λ (z : ℕ). 2 ^ z) (back l (suc k) (exponent-le (suc k) l h)) ∙ sym (one-mul (2 ^ l)))
 
@@ -150,7 +150,7 @@ under n q d p l w h k e v = lt-of-mul-lt-mul-right d (omega (arith, mul-lt-mul-o
 module _ (f : Format) (e : ℤ) where
   kept : (m : ℕ) → m < 2 ^ prec f → down e ≤ 2 ^ low f → m * up e < 2 ^ suc (emax f) * down e → HasValue (round f false (m * up e) (down e)) false (m * up e) (down e)
   kept m a b c =
-      let s = scale (low f) e b in
+      let s = in-units (low f) e b in
       let u : m * up e * 2 ^ low f ≡ m * 2 ^ (s .0) * down e = omega (arith, ap (λ (z : ℕ). m * z) (s .1)) in
       round-exact f false (m * up e) (down e) m (s .0) (down-pos e) a
       (under (m * up e) (m * 2 ^ (s .0)) (down e) (2 ^ suc (emax f)) (2 ^ low f) (2 ^ (low f + suc (emax f))) c (pow-pos (low f)) u (pow-add 2 (low f) (suc (emax f)))) u

@@ -1,0 +1,87 @@
+-- `write_file` makes the two tests of the definition; then the header and the samples, written one right after the other, are the file.
+-- Assumes nothing.
+use mathlib.Core.Path.{ap, _∙_}
+use mathlib.Core.List.{List}
+use Prim.Native.Nat.{ℕ}
+use borrow.Author.Needs.{needs}
+use borrow.Author.Tests.{le-leb, lt-leb}
+use Rattle.wave.specs.File.{samplesIn, fileAnswer, fileIn}
+use Rattle.wave.proofs.Writes.{file-put}
+use Rattle.wave.proofs.file.write_file.Statement.{statement}
+use Rattle.wave.proofs.file.write_file.Tie as tie
+
+returns : tie.Need-returns
+unfolding fileAnswer fileIn
+returns c = (rw (lt-leb _ _ (c .if1 .taken), fileAnswer), rw (lt-leb _ _ (c .if1 .taken), fileIn))
+
+mul-if2 : tie.Need-mul-if2
+mul-if2 c = search needs
+
+add-if2 : tie.Need-add-if2
+add-if2 c = search needs
+
+returns-2 : tie.Need-returns-2
+unfolding fileAnswer fileIn
+returns-2 c =
+    let few = c .before .if1 .left in
+    (rw (le-leb _ _ few, lt-leb _ _ (c .if2 .taken), fileAnswer), rw (le-leb _ _ few, lt-leb _ _ (c .if2 .taken), fileIn))
+
+mul-write-header : tie.Need-mul-write-header
+mul-write-header c = search needs
+
+add-write-header : tie.Need-add-write-header
+add-write-header c = search needs
+
+cast-write-header : tie.Need-cast-write-header
+cast-write-header c = search needs
+
+cast-write-header-2 : tie.Need-cast-write-header-2
+cast-write-header-2 c = search needs
+
+write-header-requires : tie.Need-write-header-requires
+write-header-requires c κs = search needs
+
+write-samples-requires : tie.Need-write-samples-requires
+write-samples-requires c κs = search needs
+
+mul-t6 : tie.Need-mul-t6
+mul-t6 c = search needs
+
+add-t8 : tie.Need-add-t8
+add-t8 c = search needs
+
+same-length : tie.Need-same-length
+same-length c = search needs
+
+returns-3 : tie.Need-returns-3
+unfolding fileAnswer fileIn
+returns-3 c =
+    let w = c .before .before .before .before .before .before in
+    let room = w .before .before .if2 .left in
+    let few = w .before .before .before .if1 .left in
+    let s = w .before .before .before .before .before .before in (
+      rw (le-leb _ _ few, le-leb _ _ room, fileAnswer),
+      rw (le-leb _ _ few, le-leb _ _ room, fileIn)
+          (c .before .before .write-samples .ensures .1
+          ∙ ap (λ (b : List ℕ). samplesIn b 44 (s .args .samples .now)) (w .write-header .ensures .1)
+          ∙ file-put _ (s .args .rate) (s .args .samples .now) (s .args .buffer .now) room),
+    )
+
+pub write-file-spec : {M : Type 1} → statement M
+write-file-spec =
+    tie.close
+    (tie.spec
+    returns
+    mul-if2
+    add-if2
+    returns-2
+    mul-write-header
+    add-write-header
+    cast-write-header
+    cast-write-header-2
+    write-header-requires
+    write-samples-requires
+    mul-t6
+    add-t8
+    same-length
+    returns-3)
