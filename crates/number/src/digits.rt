@@ -13,7 +13,7 @@ pub enum Int {
 }
 
 // Whether b is one of the ten digits.
-pub fn is_digit(b: u8) -> bool
+pub(crate) fn is_digit(b: u8) -> bool
     ensures { λ r. ⌜ r ≡ isDigit b ⌝ }
 {
     if b < 48 {
@@ -23,7 +23,7 @@ pub fn is_digit(b: u8) -> bool
 }
 
 // What the digit b counts. (A byte below `0`, which no caller has here, counts 0.)
-pub fn digit(b: u8) -> u64
+pub(crate) fn digit(b: u8) -> u64
     ensures { λ r. ⌜ r ≡ b - 48 ⌝ }
 {
     if b < 48 {
@@ -33,7 +33,7 @@ pub fn digit(b: u8) -> u64
 }
 
 // The place after the digits that stand at i: i itself where there is none.
-pub fn run_end(s: &[u8], i: usize) -> usize
+pub(crate) fn run_end(s: &[u8], i: usize) -> usize
     ensures { λ r. ⌜ r ≡ i + length (front isDigit (drop i (now (s .entry)))) ⌝ }
 {
     let mut at = i;
