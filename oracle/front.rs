@@ -2,7 +2,7 @@
 //! It asks the Rust engine one kind of question per mode and prints floats as bit patterns,
 //! so that an answer can be compared byte for byte.
 //!
-//! Modes, all reading standard input:
+//! Modes, each with what it reads from standard input, if anything, and what it writes:
 //!   notes     a sheet; `err`, or parts, notes, instruments and commands
 //!   wav       a sheet; the WAV bytes, or `err`
 //!   raw       a sheet; its samples as little-endian f32, or `err`
@@ -13,11 +13,19 @@
 //!   eval      instruments and `at F D T` lines; the instrument's value at each
 //!   decimal   texts, one a line; `none`, or the bits of the f32 and where it stopped
 //!   digits32, digits64   likewise for digit runs
+//!   number-requests SEED COUNT    no input; requests for numbers (asked.rs), thrown by dice
+//!   number-samples                no input; the requests that are stored
+//!   number-answers                requests; the answers to them (numbers.rs)
+//!   number-counts                 requests; how many of each kind
+//!   number-difference R A B       no input; the smallest of R's requests that A and B answer apart
+//!   sine-ranges START LOG2 COUNT  no input; requests for the sines of ranges of bit patterns
 
 // The engine's own file front is not called here.
 #![allow(dead_code)]
 
+mod asked;
 mod engine;
+mod numbers;
 #[cfg(ruled)]
 mod ruled;
 #[cfg(ruled)]
@@ -48,6 +56,14 @@ fn main() {
         "decimal" => each_line(decimal),
         "digits32" => each_line(digits::<u32>),
         "digits64" => each_line(digits::<u64>),
+        "number-requests" => put(&asked::requests(argument(2), argument(3))),
+        "number-samples" => put(&asked::samples()),
+        "number-answers" => put(&numbers::answers(&input())),
+        "number-counts" => put((numbers::counts(&input()) + "\n").as_bytes()),
+        "number-difference" => {
+            put((numbers::difference(&file(2), &file(3), &file(4)) + "\n").as_bytes())
+        }
+        "sine-ranges" => put(&asked::sine_ranges(argument(2), argument(3), argument(4))),
         _ => fail("no such mode"),
     }
 }
@@ -55,6 +71,15 @@ fn main() {
 fn fail(what: &str) -> ! {
     eprintln!("oracle: {what}");
     exit(2)
+}
+
+fn argument<T: std::str::FromStr>(k: usize) -> T {
+    number(&std::env::args().nth(k).unwrap_or_default())
+}
+
+fn file(k: usize) -> Vec<u8> {
+    let path = std::env::args().nth(k).unwrap_or_default();
+    std::fs::read(path).unwrap_or_else(|_| fail("a file cannot be read"))
 }
 
 fn input() -> Vec<u8> {
@@ -259,9 +284,12 @@ fn frequency(s: usize) -> f32 {
         "c--", "c-", "c", "c+", "d", "d+", "e", "f", "f+", "g", "g+", "a", "a+", "b", "b+", "b++",
     ];
     let octave = (s / 12).clamp(1, 8);
-    let sheet = format!("p o{octave}{}", NAMES[s + 2 - 12 * octave]);
-    let info = parser::parse(&sheet).unwrap_or_else(|e| fail(&e));
-    parts(&info)[0].1[0].frequency
+    only_note(&format!("p o{octave}{}", NAMES[s + 2 - 12 * octave])).frequency
+}
+
+fn only_note(sheet: &str) -> Note {
+    let info = parser::parse(sheet).unwrap_or_else(|e| fail(&e));
+    parts(&info)[0].1[0].clone()
 }
 
 fn decimal(text: &str) -> String {

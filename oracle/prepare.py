@@ -1,7 +1,7 @@
 """Copies the given Rust engine to a build folder and makes our few changes in the copy.
 
-Two copies are made: `given`, where modules become public and nothing else
-changes, and `ruled`, which also takes document 01's turn sine, power rule and
+Two copies are made: `given`, where modules and one function become public and
+nothing else changes, and `ruled`, which also takes document 01's turn sine, power rule and
 order of parts. Each change is counted, so that a source which is not the one
 we know stops the build instead of giving a program that is wrong in silence.
 
@@ -12,11 +12,17 @@ import shutil
 import sys
 from pathlib import Path
 
+# Our own files that both programs are made of; the first is their main file.
+FRONT = {"front.rs": "main.rs", "numbers.rs": "numbers.rs", "asked.rs": "asked.rs"}
+
 # Each change: file, text, what replaces it, how often the text must be there.
-OPEN_MODULES = [
+OPEN = [
     ("engine.rs", f"\nmod {name};\n", f"\npub mod {name};\n", 1)
     for name in ("instrument", "note", "parser")
-] + [("engine.rs", "mod evaluator;\n", "pub mod evaluator;\n", 1)]
+] + [
+    ("engine.rs", "mod evaluator;\n", "pub mod evaluator;\n", 1),
+    ("engine/evaluator.rs", "\nfn sec_to_len(", "\npub fn sec_to_len(", 1),
+]
 
 RULES = [
     (
@@ -75,7 +81,7 @@ def check_gone(folder):
 
 
 def fresh_copy(rust, folder):
-    """Puts a new copy of the engine, with our front as its main file, into the folder."""
+    """Puts a new copy of the engine, with our front, into the folder."""
     shutil.rmtree(folder, ignore_errors=True)
     folder.mkdir(parents=True)
     shutil.copyfile(rust / "src" / "engine.rs", folder / "engine.rs")
@@ -83,7 +89,8 @@ def fresh_copy(rust, folder):
         target = folder / path.relative_to(rust / "src")
         target.parent.mkdir(parents=True, exist_ok=True)
         shutil.copyfile(path, target)
-    shutil.copyfile(Path(__file__).parent / "front.rs", folder / "main.rs")
+    for name, target in FRONT.items():
+        shutil.copyfile(Path(__file__).parent / name, folder / target)
 
 
 def table_source(lines):
@@ -102,7 +109,7 @@ def table_source(lines):
 
 
 def main(rust, turn_output, build):
-    for name, changes in (("given", OPEN_MODULES), ("ruled", OPEN_MODULES + RULES)):
+    for name, changes in (("given", OPEN), ("ruled", OPEN + RULES)):
         fresh_copy(rust, build / name)
         change(build / name, changes)
     check_gone(build / "ruled")

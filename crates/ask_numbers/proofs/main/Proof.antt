@@ -1,0 +1,38 @@
+-- `main` is safe and ends. Nothing has to hold from turn to turn: the table stays as it was made. The measure is how many turns are
+-- left. Assumes nothing.
+use native.Mathlib.Omega.{arith}
+use Rattle.ask_numbers.proofs.main.Statement.{statement}
+use Rattle.ask_numbers.proofs.main.Tie as tie
+
+abbrev Inv-loop : tie.InvT-loop
+Inv-loop table turns₀ turns = Unit {0}
+
+abbrev μ-loop : tie.MeasureT-loop
+μ-loop table turns₀ turns = turns
+
+table-requires : tie.Need-table-requires Inv-loop μ-loop
+table-requires c κs = tt
+
+loop-holds : tie.Need-loop-holds Inv-loop μ-loop
+loop-holds c = tt
+
+answer-block-requires : tie.Need-answer-block-requires Inv-loop μ-loop
+answer-block-requires c κs = c .before .before .before .table .ensures
+
+sub-turns : tie.Need-sub-turns Inv-loop μ-loop
+sub-turns c = omega arith
+
+loop-less : tie.Need-loop-less Inv-loop μ-loop
+loop-less c = omega arith
+
+loop-again : tie.Need-loop-again Inv-loop μ-loop
+loop-again c = tt
+
+returns : tie.Need-returns Inv-loop μ-loop
+returns c = tt
+
+returns-2 : tie.Need-returns-2 Inv-loop μ-loop
+returns-2 c = tt
+
+pub main-spec : {M : Type 1} → statement M
+main-spec = tie.close (tie.spec Inv-loop μ-loop table-requires loop-holds answer-block-requires sub-turns loop-less loop-again returns returns-2)
