@@ -3,7 +3,7 @@
 use mathlib.Core.Path.{_≡_, sym, ap, _∙_, subst}
 use mathlib.Core.Bool.{Bool, true, false, true≢false, _&&_}
 use Prim.Native.Nat.{ℕ, zero, suc, _+_, _-_, _*_, _/_, _%_, _^_, _≤_, _<_}
-use native.Mathlib.Nat.{pow-suc, mul-one, one-mul, mul-pos, le-of-suc-le-suc, lt-of-le-of-lt, lt-of-not-le, not-le-of-lt, lt-of-mul-lt-mul-right, mul-lt-mul-of-pos-right, div-lt-iff-lt-mul, div-eq-of-lt, le-of-mul-le-mul-right, div-div-eq-div-mul, add-div-right}
+use native.Mathlib.Nat.{pow-suc, mul-one, one-mul, mul-pos, le-of-suc-le-suc, lt-of-le-of-lt, lt-of-not-le, not-le-of-lt, lt-of-mul-lt-mul-right, mul-lt-mul-of-pos-right, div-lt-iff-lt-mul, div-eq-of-lt, le-of-mul-le-mul-right, div-div-eq-div-mul, add-div-right, mul-div-le, lt-mul-div-succ}
 use native.Mathlib.Omega.{arith}
 use lib.Dec.{T, leb, ltb, eqb, leb→le, ltb→lt, le→leb, lit<}
 use lib.Pow.{pow-add, pow-pos, pow-lt}
@@ -17,6 +17,13 @@ use lib.Ieee.Nearest.{div-same}
 use borrow.Author.Tests.{ltb-true, ltb-false}
 use Rattle.tone.proofs.Nonnegative.{in-units}
 use Rattle.wave.specs.Sample.{halfUp, nearestWhole, AtMostScale}
+
+-- ---- what `halfUp` is: the h with h - 1/2 ≤ n / d < h + 1/2, the whole number nearest to n / d, and the larger of two that are as near
+pub half-up-nearest : (n d : ℕ) → 0 < d → (2 * d * halfUp n d ≤ 2 * n + d) × (2 * n + d < 2 * d * halfUp n d + 2 * d)
+unfolding halfUp
+half-up-nearest n d p =
+    let q : 0 < 2 * d = omega arith in
+    (mul-div-le (2 * n + d) (2 * d), omega (arith, lt-mul-div-succ (2 * n + d) q))
 
 -- ---- half of the whole part of twice n / d, rounded up, is the whole number nearest to n / d
 
