@@ -18,7 +18,8 @@ use Rattle.tone.specs.declared.time.Length.the-variants.{Samples, NotANumber, N
 use Rattle.tone.specs.Power.{frequencyOf}
 use Rattle.tone.specs.Time.{durationOf, lengthOf}
 use Rattle.ask_numbers.specs.declared.answer.Answer.{Answer}
-use Rattle.ask_numbers.specs.Request.{wordAt, kindOf, textOf, placeOf}
+use Rattle.fields.specs.Word.{wordAt}
+use Rattle.ask_numbers.specs.Request.{kindOf, textOf, placeOf}
 
 -- ---- answers
 

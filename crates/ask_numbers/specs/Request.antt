@@ -1,12 +1,8 @@
 -- The fields of a 32-byte request. Byte 0 is the kind. Numbers take four bytes, the lowest first, from byte 4 on; a text has its
 -- length in byte 1, the place to read at in byte 2, and its bytes from byte 3 on. Assumes nothing.
 use mathlib.Core.List.{List}
-use Prim.Native.Nat.{ℕ, _+_, _*_}
+use Prim.Native.Nat.{ℕ}
 use lib.ListN.{getD, take, drop}
-
--- the number of four bytes at place i
-unfoldable pub wordAt : List ℕ → ℕ → ℕ
-wordAt s i = getD s i 0 + getD s (i + 1) 0 * 0x100 + getD s (i + 2) 0 * 0x1_0000 + getD s (i + 3) 0 * 0x100_0000
 
 abbrev pub kindOf : List ℕ → ℕ
 kindOf s = getD s 0 0

@@ -6,9 +6,10 @@ ghost use lib.Ieee.{binary32, toBits};
 ghost use lib.ListN.{length};
 ghost use Rattle.sine.specs.Quarter.{quarter};
 ghost use Rattle.ask_numbers.specs.Answer.{tagged, valued, decimalAnswer, digitsAnswer, lengthAnswer, decimalFor, digitsFor, sineFor, frequencyFor, durationFor, lengthFor, sinesFor, answerTo};
-use crate::float;
 use crate::request;
 use crate::sines;
+use fields::float;
+use fields::word::word;
 use number::decimal::Decimal;
 use number::decimal::eat_float;
 use number::digits::Int;
@@ -108,23 +109,23 @@ fn sine(table: &[u32; 1025], s: &[u8]) -> Answer
     requires { ⌜ (now table ≡ quarter) × (length (now s) ≡ 32) ⌝ }
     ensures { λ r. ⌜ r ≡ sineFor (now (s .entry)) ⌝ }
 {
-    number(sines::sine_bits(table, request::word(s, 4)) as u64)
+    number(sines::sine_bits(table, word(s, 4)) as u64)
 }
 
 fn frequency(s: &[u8]) -> Answer
     requires { ⌜ length (now s) ≡ 32 ⌝ }
     ensures { λ r. ⌜ r ≡ frequencyFor (now (s .entry)) ⌝ }
 {
-    float_bits(tone::power::frequency(request::word(s, 4)))
+    float_bits(tone::power::frequency(word(s, 4)))
 }
 
 fn duration(s: &[u8]) -> Answer
     requires { ⌜ length (now s) ≡ 32 ⌝ }
     ensures { λ r. ⌜ r ≡ durationFor (now (s .entry)) ⌝ }
 {
-    let tempo = request::word(s, 4);
-    let denom = request::word(s, 8);
-    let value = request::word(s, 12);
+    let tempo = word(s, 4);
+    let denom = word(s, 8);
+    let value = word(s, 12);
     float_bits(tone::time::duration(tempo, denom, value, s[16] != 0))
 }
 
@@ -132,16 +133,16 @@ fn samples(s: &[u8]) -> Answer
     requires { ⌜ length (now s) ≡ 32 ⌝ }
     ensures { λ r. ⌜ r ≡ lengthFor (now (s .entry)) ⌝ }
 {
-    let seconds = float::of_bits(request::word(s, 4));
-    of_length(sec_to_len(seconds, request::word(s, 8)))
+    let seconds = float::of_bits(word(s, 4));
+    of_length(sec_to_len(seconds, word(s, 8)))
 }
 
 fn sine_run(table: &[u32; 1025], s: &[u8]) -> Answer
     requires { ⌜ (now table ≡ quarter) × (length (now s) ≡ 32) ⌝ }
     ensures { λ r. ⌜ r ≡ sinesFor (now (s .entry)) ⌝ }
 {
-    let start = request::word(s, 4);
-    number(sines::sines(table, start, request::word(s, 8)))
+    let start = word(s, 4);
+    number(sines::sines(table, start, word(s, 8)))
 }
 
 // The answer to the request s.

@@ -3,7 +3,6 @@
 
 mod answer;
 mod block;
-mod float;
 mod request;
 mod sines;
 

@@ -8,7 +8,7 @@ ghost use lib.Ieee.{binary32, toBits, ofBits};
 ghost use Rattle.sine.specs.Quarter.{quarter};
 ghost use Rattle.sine.specs.Turn.{turnSine};
 ghost use Rattle.ask_numbers.specs.Answer.{mixed, prime, sinesFrom};
-use crate::float;
+use fields::float;
 use sine::turn::sine_by;
 
 // The bits of the sine of the float whose bits these are.

@@ -5,8 +5,8 @@ use lib.Dec.{T}
 use lib.Ieee.{Float, nan, inf, fin, isNan, ne, toBits}
 use lib.Ieee.Compare.{differs-from-itself, nan-differs}
 use borrow.Author.Needs.{needs}
-use Rattle.ask_numbers.proofs.float.to_bits.Statement.{statement}
-use Rattle.ask_numbers.proofs.float.to_bits.Tie as tie
+use Rattle.fields.proofs.float.to_bits.Statement.{statement}
+use Rattle.fields.proofs.float.to_bits.Tie as tie
 
 no-nan : (x : Float) → ne x x ≡ false → T (not (isNan x))
 unfolding isNan

@@ -9,8 +9,8 @@ use lib.Ieee.{Float, nan, inf, fin, binary32, isNan, nanBits, ofBits, div}
 use lib.Ieee.Bits.{nanBits-is}
 use borrow.Author.Needs.{needs}
 use borrow.Author.Tests.{eq-eqb, ne-eqb, eqb-true}
-use Rattle.ask_numbers.proofs.float.of_bits.Statement.{statement}
-use Rattle.ask_numbers.proofs.float.of_bits.Tie as tie
+use Rattle.fields.proofs.float.of_bits.Statement.{statement}
+use Rattle.fields.proofs.float.of_bits.Tie as tie
 
 -- the one NaN
 the-nan : (x : Float) → isNan x ≡ true → nan ≡ x

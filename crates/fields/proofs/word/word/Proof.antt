@@ -1,9 +1,9 @@
 -- `word` is `wordAt`: four bytes, none of which overflows its share. Assumes nothing.
 use borrow.Author.Needs.{needs}
 use native.Mathlib.Omega.{arith}
-use Rattle.ask_numbers.specs.Request.{wordAt}
-use Rattle.ask_numbers.proofs.request.word.Statement.{statement}
-use Rattle.ask_numbers.proofs.request.word.Tie as tie
+use Rattle.fields.specs.Word.{wordAt}
+use Rattle.fields.proofs.word.word.Statement.{statement}
+use Rattle.fields.proofs.word.word.Tie as tie
 
 shared-slice-read-wide : tie.Need-shared-slice-read-wide
 shared-slice-read-wide c = search needs

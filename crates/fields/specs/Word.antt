@@ -1,0 +1,8 @@
+-- Numbers of four bytes in a list of bytes, the lowest byte first. Assumes nothing.
+use mathlib.Core.List.{List}
+use Prim.Native.Nat.{ℕ, _+_, _*_}
+use lib.ListN.{getD}
+
+-- the number of four bytes at place i
+unfoldable pub wordAt : List ℕ → ℕ → ℕ
+wordAt s i = getD s i 0 + getD s (i + 1) 0 * 0x100 + getD s (i + 2) 0 * 0x1_0000 + getD s (i + 3) 0 * 0x100_0000
