@@ -1,0 +1,81 @@
+-- `to` makes the two tests of the definition, and each writer's own contract says the rest. Assumes nothing.
+use mathlib.Core.Path.{ap, _∙_}
+use Prim.Native.Nat.{ℕ}
+use borrow.Author.Needs.{needs}
+use borrow.Author.Tests.{eq-eqb, ne-eqb}
+use Rattle.ask_wave.specs.Answer.{writtenAnswer, answerTo, bufferTo}
+use Rattle.ask_wave.proofs.answer.to.Statement.{statement}
+use Rattle.ask_wave.proofs.answer.to.Tie as tie
+
+write-file-requires : tie.Need-write-file-requires
+write-file-requires c κs = search needs
+
+of-written-requires : tie.Need-of-written-requires
+of-written-requires c κs = search needs
+
+same-length : tie.Need-same-length
+same-length c = search needs
+
+returns : tie.Need-returns
+unfolding answerTo bufferTo
+returns c =
+    let w = c .before .before .before in
+    let is = eq-eqb _ _ (w .before .before .if1 .taken) in (
+      rw (is, answerTo) (c .of-written .ensures ∙ ap writtenAnswer (w .write-file .ensures .0)),
+      rw (is, bufferTo) (w .write-file .ensures .1),
+    )
+
+cast-write-samples : tie.Need-cast-write-samples
+cast-write-samples c = search needs
+
+write-samples-requires : tie.Need-write-samples-requires
+write-samples-requires c κs = search needs
+
+same-length-2 : tie.Need-same-length-2
+same-length-2 c = search needs
+
+returns-2 : tie.Need-returns-2
+unfolding answerTo bufferTo
+returns-2 c =
+    let w = c .before .before in
+    let not-file = ne-eqb _ _ (w .before .before .before .before .before .if1 .left) in
+    let is = eq-eqb _ _ (w .before .before .before .if2 .taken) in (
+      rw (not-file, is, answerTo) (ap (λ (n : ℕ). record { refusal = 0; count = n }) (w .write-samples .ensures .0)),
+      rw (not-file, is, bufferTo) (w .write-samples .ensures .1),
+    )
+
+write-header-requires : tie.Need-write-header-requires
+write-header-requires c κs = search needs
+
+of-written-requires-2 : tie.Need-of-written-requires-2
+of-written-requires-2 c κs = search needs
+
+same-length-3 : tie.Need-same-length-3
+same-length-3 c = search needs
+
+returns-3 : tie.Need-returns-3
+unfolding answerTo bufferTo
+returns-3 c =
+    let w = c .before .before .before in
+    let not-file = ne-eqb _ _ (w .before .before .before .before .if1 .left) in
+    let not-window = ne-eqb _ _ (w .before .before .if2 .left) in (
+      rw (not-file, not-window, answerTo) (c .of-written2 .ensures ∙ ap writtenAnswer (w .write-header .ensures .0)),
+      rw (not-file, not-window, bufferTo) (w .write-header .ensures .1),
+    )
+
+pub to-spec : {M : Type 1} → statement M
+to-spec =
+    tie.close
+    (tie.spec
+    write-file-requires
+    of-written-requires
+    same-length
+    returns
+    cast-write-samples
+    write-samples-requires
+    same-length-2
+    returns-2
+    write-header-requires
+    of-written-requires-2
+    same-length-3
+    returns-3)

@@ -1,0 +1,38 @@
+-- What a request is answered, and what its buffer holds afterwards, by the definitions of `wave`. Assumes nothing.
+use mathlib.Core.Bool.{true, false}
+use mathlib.Core.List.{List}
+use Prim.Native.Nat.{ℕ}
+use lib.Dec.{eqb}
+use lib.Ieee.{Float}
+use Rattle.wave.specs.declared.file.Written.{Written}
+use Rattle.wave.specs.declared.file.Written.the-variants.{Wrote, TooShort}
+use Rattle.wave.specs.File.{countIn, samplesIn, headerAnswer, headerIn, fileAnswer, fileIn, refusalOf}
+use Rattle.ask_wave.specs.declared.request.Request.{Request}
+use Rattle.ask_wave.specs.declared.answer.Answer.{Answer}
+
+abbrev pub writtenAnswer : Written → Answer
+writtenAnswer (Wrote n) = record { refusal = refusalOf (Wrote n); count = n }
+writtenAnswer TooShort = record { refusal = refusalOf TooShort; count = 0 }
+
+-- so many samples, in a buffer of so many bytes
+unfoldable pub answerTo : Request → ℕ → ℕ → Answer
+answerTo r samples room =
+    elim (eqb (r .kind) 0) [
+      | true ↦ writtenAnswer (fileAnswer samples room)
+      | false ↦
+          elim (eqb (r .kind) 1) [
+            | true ↦ record { refusal = 0; count = countIn room (r .place) samples }
+            | false ↦ writtenAnswer (headerAnswer room)
+          ]
+    ]
+
+unfoldable pub bufferTo : Request → List Float → List ℕ → List ℕ
+bufferTo r samples buffer =
+    elim (eqb (r .kind) 0) [
+      | true ↦ fileIn (r .rate) samples buffer
+      | false ↦
+          elim (eqb (r .kind) 1) [
+            | true ↦ samplesIn buffer (r .place) samples
+            | false ↦ headerIn (r .place) (r .rate) (r .count) buffer
+          ]
+    ]
