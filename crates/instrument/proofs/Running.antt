@@ -1,9 +1,9 @@
 -- Running an instrument's commands one by one: what is left of them, run from the state in the arrays, gives what the whole
 -- list gives. The loops that run an instrument keep this, and cite how it starts, goes on and ends. Assumes nothing.
-use mathlib.Core.Path.{_≡_, refl, sym, ap, ap₂, subst, _∙_}
+use mathlib.Core.Path.{_≡_, refl, sym, ap, _∙_}
 use mathlib.Core.Bool.{false}
 use mathlib.Core.List.{List, [], _∷_, map}
-use Prim.Native.Nat.{ℕ, zero, suc, _+_, _-_, _≤_, _<_, min}
+use Prim.Native.Nat.{ℕ, suc, _+_, _-_, _≤_, _<_, min}
 use native.Mathlib.Omega.{arith}
 use native.Mathlib.Numerals.{add-one}
 use lib.IntN.{pos}
@@ -13,9 +13,9 @@ use lib.Ieee.{Float, fin}
 use Rattle.instrument.specs.declared.machine.Command.{Command}
 use Rattle.instrument.specs.declared.machine.Slot.{Slot}
 use Rattle.instrument.specs.declared.machine.Instrument.{Instrument}
-use Rattle.instrument.specs.Machine.{State, step, run, machine}
+use Rattle.instrument.specs.Machine.{State, run, machine}
 use Rattle.instrument.specs.Evaluation.{listOf, instrumentAt}
-use Rattle.instrument.specs.Stack.{stackOf, stateOf, stepAt, runAt, Steps}
+use Rattle.instrument.specs.Stack.{stateOf, stepAt, runAt, Steps}
 
 -- the machine at the start
 abbrev start : State Float

@@ -2,7 +2,7 @@
 -- Assumes nothing.
 use mathlib.Core.Path.{_≡_, refl, sym, ap, ap₂, subst, _∙_}
 use mathlib.Core.Bool.{false}
-use mathlib.Core.List.{List, [], _∷_}
+use mathlib.Core.List.{List, _∷_}
 use Prim.Native.Nat.{ℕ, zero, suc, _+_, _-_, _≤_, _<_}
 use native.Mathlib.Omega.{arith}
 use native.Mathlib.Numerals.{add-one}
@@ -13,7 +13,7 @@ use lib.Ieee.{Float, nan, fin, binary32, add}
 use Rattle.instrument.specs.declared.operator.Operator.{Operator}
 use Rattle.instrument.specs.declared.machine.Command.the-variants as Command
 use Rattle.instrument.specs.Evaluation.{operatorAt}
-use Rattle.instrument.specs.Machine.{Entry, State, topped, settled, step}
+use Rattle.instrument.specs.Machine.{Entry, topped, step}
 use Rattle.instrument.specs.Stack.{stackOf, stateOf, settledAt, stepAt}
 
 -- a store of a count above the depth

@@ -7,7 +7,6 @@ use lib.IntN.{pos}
 use mathlib.Core.Bool.{false}
 use lib.ListN.{length, getD}
 use lib.Ieee.{Float, nan, fin, binary32, add}
-use Rattle.instrument.specs.declared.operator.Operator.{Operator}
 use Rattle.instrument.specs.declared.machine.Command.{Command}
 use Rattle.instrument.specs.Evaluation.{operatorAt}
 use Rattle.instrument.specs.Machine.{Entry, State, settled, step, run}

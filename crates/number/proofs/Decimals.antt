@@ -1,8 +1,8 @@
 -- Laws of decimals: when the digits of both sides are judged too long or a value, and that 18 digits stay below 10 ^ 18.
 -- The readers' proofs cite these, and never the definitions' text. Assumes nothing.
-use mathlib.Core.Path.{_≡_, refl, sym, ap, ap₂, subst, _∙_}
-use mathlib.Core.Bool.{true, false}
-use mathlib.Core.List.{List, [], _∷_, _++_}
+use mathlib.Core.Path.{_≡_, refl, sym, ap, _∙_}
+use mathlib.Core.Bool.{false}
+use mathlib.Core.List.{List, [], _∷_}
 use Prim.Native.Nat.{ℕ, suc, _+_, _-_, _*_, _^_, _≤_, _<_}
 use native.Mathlib.Nat.{le-trans, le-of-eq, lt-of-lt-of-le, mul-le-mul-right, pow-le-pow-right, one-mul}
 use native.Mathlib.Numerals.{add-one}
@@ -13,7 +13,6 @@ use lib.ListN.{drop-of-length-le}
 use lib.Pow.{pow-add}
 use lib.Ieee.{Float, binary32, round}
 use borrow.Author.Tests.{le-leb, lt-leb, eq-eqb, ne-eqb}
-use Rattle.number.specs.declared.decimal.Decimal.{Decimal}
 use Rattle.number.specs.declared.decimal.Decimal.the-variants.{Value, Unreadable, TooLong}
 use Rattle.number.specs.Digits.{front, after, isDigit, valueFrom}
 use Rattle.number.specs.Decimal.{nearestTo, judged, pointed, ended, begun, decimalAt}

@@ -1,13 +1,11 @@
 -- Worked values of document 01's rules for numbers, proved by computation: what a dealer's text means can be read off here.
 -- Assumes nothing.
 use mathlib.Core.Path.{_≡_, refl}
-use mathlib.Core.List.{List}
 use Prim.Native.Nat.{ℕ}
 use Prim.Native.String.{String}
 use lib.Ieee.{binary32, round, ofBits}
 use Rattle.number.specs.declared.decimal.Decimal.{Decimal}
 use Rattle.number.specs.declared.decimal.Decimal.the-variants.{Value, Unreadable, TooLong}
-use Rattle.number.specs.declared.digits.Int.{Int}
 use Rattle.number.specs.declared.digits.Int.the-variants.{Number, Absent}
 use Rattle.number.specs.Text.{bytes}
 use Rattle.number.specs.Digits.{intAt}

@@ -1,6 +1,6 @@
 -- Where a number ends: past its start and within the text, which whoever reads on from there relies on; and a run's value is
 -- within its limit. Assumes nothing.
-use mathlib.Core.Path.{_≡_, refl, sym, ap, _∙_}
+use mathlib.Core.Path.{_≡_, refl, sym, ap}
 use mathlib.Core.Bool.{Bool, true, false}
 use mathlib.Core.List.{List, [], _∷_}
 use Prim.Native.Nat.{ℕ, _+_, _-_, _≤_, _<_}
@@ -10,7 +10,7 @@ use lib.ListN.{length, drop, length-drop}
 use lib.Ieee.{Float}
 use borrow.Author.Tests.{leb-true}
 use Rattle.number.specs.declared.decimal.Decimal.{Decimal}
-use Rattle.number.specs.declared.decimal.Decimal.the-variants.{Value, Unreadable, TooLong}
+use Rattle.number.specs.declared.decimal.Decimal.the-variants.{Value, TooLong}
 use Rattle.number.specs.declared.digits.Int.{Int}
 use Rattle.number.specs.declared.digits.Int.the-variants.{Number, Absent}
 use Rattle.number.specs.Digits.{front, after, isDigit, valueFrom, intOf, intAt}

@@ -1,8 +1,8 @@
 -- Powers of two as code meets them: one more doubling, and exponents read back from sizes.
 -- Assumes nothing.
 use mathlib.Core.Path.{_≡_, sym, ap, _∙_}
-use Prim.Native.Nat.{ℕ, suc, _+_, _*_, _^_, _≤_, _<_}
-use native.Mathlib.Nat.{pow-suc, mul-assoc, lt-of-not-le, not-le-of-lt, lt-of-le-of-lt}
+use Prim.Native.Nat.{ℕ, _+_, _*_, _^_, _≤_, _<_}
+use native.Mathlib.Nat.{pow-suc, mul-assoc, lt-of-not-le, not-le-of-lt}
 use native.Mathlib.Numerals.{add-one}
 use lib.Pow.{pow-mono}
 

@@ -2,18 +2,18 @@
 -- whole number of units, and its bits are the field k and that number added up. Assumes nothing.
 use mathlib.Core.Path.{_≡_, refl, sym, ap, ap₂, _∙_, subst}
 use mathlib.Core.Logic.{inl, inr}
-use mathlib.Core.Bool.{Bool, true, false, not, cond}
+use mathlib.Core.Bool.{Bool, false, cond}
 use Prim.Native.Nat.{ℕ, zero, suc, _+_, _-_, _*_, _/_, _%_, _^_, _≤_, _<_, compare, Ordering·lt, Ordering·eq, Ordering·gt, compare·zero-zero, compare·zero-suc, compare·suc-zero, compare·suc-suc}
 use native.Mathlib.Numerals.{add-one}
-use native.Mathlib.Nat.{le-of-suc-le-suc, not-suc-le-zero, le-trans, le-of-eq, lt-of-lt-of-le, lt-of-le-of-lt, lt-of-not-le, not-le-of-lt, zero-add, mul-comm, mul-assoc, mul-right-comm, mul-le-mul-right, mul-lt-mul-of-pos-right, mul-pos, mul-le-mul, mul-div-cancel, lt-of-mul-lt-mul-right, div-lt-iff-lt-mul, le-div-iff-mul-le, div-div-eq-div-mul, div-mul-le-self, eq-or-lt-of-le, pow-suc, suc-mul, suc-add, lt-suc-self, add-sub-of-le}
+use native.Mathlib.Nat.{le-of-suc-le-suc, not-suc-le-zero, le-trans, le-of-eq, lt-of-lt-of-le, lt-of-le-of-lt, lt-of-not-le, not-le-of-lt, zero-add, mul-comm, mul-assoc, mul-pos, mul-le-mul, mul-div-cancel, lt-of-mul-lt-mul-right, div-lt-iff-lt-mul, le-div-iff-mul-le, div-div-eq-div-mul, eq-or-lt-of-le, pow-suc, suc-add, lt-suc-self, add-sub-of-le}
 use native.Mathlib.Omega.{arith}
-use lib.Dec.{T, lit<}
+use lib.Dec.{lit<}
 use lib.Arith.{digits-div, digits-mod}
-use lib.Pow.{pow-add, pow-pos, pow-mono, pow-lt, shl-lt, shl-shr}
-use lib.Ieee.{Float, nan, inf, fin, Format, binary32, prec, emax, low, up, down, size, nearest, units, round, fits, isNan, hid, top, toBits, ofBits, nanBits}
+use lib.Pow.{pow-add, pow-pos, pow-mono, pow-lt, shl-shr}
+use lib.Ieee.{Float, nan, inf, fin, Format, binary32, prec, emax, low, up, down, size, nearest, units, round, isNan, hid, top, toBits, ofBits, nanBits}
 use lib.Ieee.Digits.{size-lt, size-le}
 use lib.Ieee.Exact.{HasValue, units-val}
-use lib.Ieee.Fits.{core, round-is, round-fits, down-pos, two, two-le-pos, nearest-le}
+use lib.Ieee.Fits.{core, round-is, round-fits, down-pos, nearest-le}
 use lib.Ieee.Nearest.{closest, closest-same, div-same, nearest-ge}
 use lib.Ieee.Bits.{ofBits-toBits, nanBits-is}
 use lib.Ieee.Scale.{round-same}

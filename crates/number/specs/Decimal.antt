@@ -1,7 +1,7 @@
 -- Decimal numbers, as document 01 has them: "A decimal is digits, or digits, a point, digits. Its value is the f32 nearest to
 -- N / 10^k, ties to even. What follows is ignored in an operator token: `0,7` is 0, `1e3` is 1. `.5` and `5.` are unreadable."
 -- "Decimal digits 18, both sides of the point together"; an unreadable number comes before a too long one. Assumes nothing.
-use mathlib.Core.Bool.{Bool, true, false}
+use mathlib.Core.Bool.{true, false}
 use mathlib.Core.List.{List, [], _∷_, _++_}
 use Prim.Native.Nat.{ℕ, _+_, _^_}
 use lib.Dec.{leb, eqb}

@@ -3,13 +3,12 @@
 use mathlib.Core.Path.{_≡_, sym, ap, _∙_, subst}
 use mathlib.Core.Bool.{Bool, true, false, true≢false, _&&_}
 use Prim.Native.Nat.{ℕ, zero, suc, _+_, _-_, _*_, _/_, _%_, _^_, _≤_, _<_}
-use native.Mathlib.Nat.{pow-suc, mul-one, one-mul, mul-pos, le-of-suc-le-suc, lt-of-le-of-lt, lt-of-not-le, not-le-of-lt, lt-of-mul-lt-mul-right, mul-lt-mul-of-pos-right, div-lt-iff-lt-mul, div-eq-of-lt, le-of-mul-le-mul-right, div-div-eq-div-mul, add-div-right, mul-div-le, lt-mul-div-succ}
+use native.Mathlib.Nat.{pow-suc, mul-pos, lt-of-le-of-lt, lt-of-mul-lt-mul-right, mul-lt-mul-of-pos-right, div-lt-iff-lt-mul, div-eq-of-lt, le-of-mul-le-mul-right, div-div-eq-div-mul, add-div-right, mul-div-le, lt-mul-div-succ}
 use native.Mathlib.Omega.{arith}
 use lib.Dec.{T, leb, ltb, eqb, leb→le, ltb→lt, le→leb, lit<}
-use lib.Pow.{pow-add, pow-pos, pow-lt}
-use lib.IntN.{ℤ, pos, negsuc}
+use lib.Pow.{pow-add, pow-pos}
+use lib.IntN.{ℤ, pos}
 use lib.Ieee.{Float, nan, inf, fin, Format, binary32, prec, emax, low, up, down, add, neg, lt, round, toUnsigned, fits}
-use lib.Ieee.Digits.{back}
 use lib.Ieee.Fits.{down-pos, neg-fits, and-l, and-r}
 use lib.Ieee.Exact.{HasValue, round-exact}
 use lib.Ieee.Scale.{round-same}

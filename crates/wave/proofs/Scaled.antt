@@ -1,9 +1,9 @@
 -- A sample that is clamped to -1..1 and multiplied by 32767.5 lies from -32767.5 to 32767.5, or is NaN: rounding keeps the order, and both ends are
 -- floats. So its nearest whole number needs 16 bits. Assumes nothing.
 use mathlib.Core.Path.{_≡_, refl, sym, ap, _∙_, subst}
-use mathlib.Core.Bool.{Bool, true, false, true≢false, cond, _||_, _&&_}
+use mathlib.Core.Bool.{Bool, true, false, true≢false, cond}
 use Prim.Native.Nat.{ℕ, zero, suc, _+_, _-_, _*_, _%_, _^_, _≤_, _<_, min}
-use native.Mathlib.Nat.{le-of-lt, le-of-eq, mul-pos, le-of-suc-le-suc, div-lt-iff-lt-mul, div-eq-of-lt}
+use native.Mathlib.Nat.{mul-pos, le-of-suc-le-suc, div-lt-iff-lt-mul, div-eq-of-lt}
 use native.Mathlib.Omega.{arith}
 use lib.Dec.{T, ltb, eqb, ltb→lt, eqb→eq}
 use lib.IntN.{pos, negℤ}

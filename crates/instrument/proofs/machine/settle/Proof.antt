@@ -1,7 +1,7 @@
 -- `settle` has a branch for each case of `settled`: no entry, one that is added, one that loses one.
 -- Assumes nothing.
 use mathlib.Core.Path.{_≡_, refl}
-use Prim.Native.Nat.{ℕ, suc, _-_}
+use Prim.Native.Nat.{suc, _-_}
 use native.Mathlib.Nat.{le-refl}
 use native.Mathlib.Omega.{arith}
 use borrow.Author.Needs.{needs}
@@ -9,8 +9,6 @@ use lib.ListN.{getD, length-set}
 use Rattle.instrument.proofs.Stacks.{settle-none, settle-add, settle-less}
 use Rattle.instrument.proofs.machine.settle.Statement.{statement}
 use Rattle.instrument.proofs.machine.settle.Tie as tie
-use Rattle.instrument.proofs.machine.settle.Reads as reads
-use Rattle.instrument.proofs.machine.settle.Lts as lts
 
 returns : tie.Need-returns
 returns c = record { state = settle-none _ _ _ _ (c .if1 .taken); within = le-refl _; size = refl }

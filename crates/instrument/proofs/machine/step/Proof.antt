@@ -1,7 +1,6 @@
 -- `step` is the machine's step, an arm for each kind of command.
 -- Assumes nothing.
-use mathlib.Core.Path.{_≡_, refl, sym, ap, _∙_}
-use Prim.Native.Nat.{ℕ, _+_, _≤_}
+use mathlib.Core.Path.{refl, sym, ap, _∙_}
 use native.Mathlib.Nat.{le-refl}
 use native.Mathlib.Omega.{arith}
 use borrow.Author.Needs.{needs}
@@ -12,10 +11,6 @@ use Rattle.instrument.specs.Stack.{stackOf, stateOf, settledAt, stepAt}
 use Rattle.instrument.proofs.Stacks.{step-operator, step-stack}
 use Rattle.instrument.proofs.machine.step.Statement.{statement}
 use Rattle.instrument.proofs.machine.step.Tie as tie
-use Rattle.instrument.proofs.machine.step.Reads as reads
-use Rattle.instrument.proofs.machine.step.Lts as lts
-use Rattle.instrument.proofs.machine.settle.Reads as settle-reads
-use Rattle.instrument.proofs.operator.Operator.eval_by.Reads as eval-by-reads
 
 enum-known-command : tie.Need-enum-known-command
 enum-known-command c = search needs

@@ -8,10 +8,6 @@ use borrow.Author.Needs.{needs}
 use Rattle.number.proofs.Rounding.{Assembled, assembled, quotient-small}
 use Rattle.number.proofs.decimal.assembled.Statement.{statement}
 use Rattle.number.proofs.decimal.assembled.Tie as tie
-use Rattle.number.proofs.decimal.assembled.Reads as reads
-use Rattle.number.proofs.decimal.assembled.Lts as lts
-use Rattle.number.proofs.decimal.divided.Reads as divided-reads
-use Rattle.number.proofs.decimal.rounded.Reads as rounded-reads
 
 divided-requires : tie.Need-divided-requires
 divided-requires c κs = search needs

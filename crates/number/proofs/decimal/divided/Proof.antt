@@ -1,16 +1,13 @@
 -- `divided` is long division: after i binary places n * 2 ^ i is the quotient times d and a rest below d.
 -- Assumes nothing.
-use mathlib.Core.Path.{_≡_, refl, sym, ap, _∙_}
+use mathlib.Core.Path.{_≡_, sym, ap, _∙_}
 use mathlib.Core.Logic.{⊎-elim}
 use Prim.Native.Nat.{ℕ, _+_, _*_, _-_, _^_, _≤_, _<_}
-use native.Mathlib.Nat.{mul-one, le-of-lt}
 use native.Mathlib.Omega.{arith}
-use lib.Pow.{pow-pos, pow-mono}
+use lib.Pow.{pow-mono}
 use Rattle.number.proofs.Powers.{pow-more, twice-scaled}
 use Rattle.number.proofs.decimal.divided.Statement.{statement}
 use Rattle.number.proofs.decimal.divided.Tie as tie
-use Rattle.number.proofs.decimal.divided.Reads as reads
-use Rattle.number.proofs.decimal.divided.Lts as lts
 
 abbrev Inv-loop : tie.InvT-loop
 Inv-loop n d whole₀ rest₀ i₀ whole rest i = (n * 2 ^ i ≡ whole * d + rest) × (rest < d) × (whole < 2 * 2 ^ i) × (i ≤ 23)

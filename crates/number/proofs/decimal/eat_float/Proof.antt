@@ -1,7 +1,7 @@
 -- `eat_float` follows the definition's cases: no digit, the text's end after the digits, a point there, or another byte.
 -- Assumes nothing.
-use mathlib.Core.Path.{_≡_, refl, sym, ap, _∙_}
-use Prim.Native.Nat.{ℕ, _+_, _<_}
+use mathlib.Core.Path.{_∙_}
+use Prim.Native.Nat.{_<_}
 use native.Mathlib.Omega.{arith}
 use borrow.Author.Needs.{needs}
 use lib.ListN.{length, drop}
@@ -9,11 +9,6 @@ use Rattle.number.specs.Digits.{front, isDigit}
 use Rattle.number.proofs.Decimals.{decimal-none, decimal-end, decimal-whole, decimal-pointed}
 use Rattle.number.proofs.decimal.eat_float.Statement.{statement}
 use Rattle.number.proofs.decimal.eat_float.Tie as tie
-use Rattle.number.proofs.decimal.eat_float.Reads as reads
-use Rattle.number.proofs.decimal.eat_float.Lts as lts
-use Rattle.number.proofs.decimal.fraction.Reads as fraction-reads
-use Rattle.number.proofs.decimal.whole_number.Reads as whole-number-reads
-use Rattle.number.proofs.digits.run_end.Reads as run-end-reads
 
 run-end-requires : tie.Need-run-end-requires
 run-end-requires c κs = search needs

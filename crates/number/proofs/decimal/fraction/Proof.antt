@@ -1,18 +1,14 @@
 -- `fraction` is the definition's case after a point: no digits are unreadable, digits are judged with those before the point.
 -- Assumes nothing.
-use mathlib.Core.Path.{_≡_, refl, sym, ap, _∙_}
-use Prim.Native.Nat.{ℕ, _+_, _<_}
+use mathlib.Core.Path.{_∙_}
+use Prim.Native.Nat.{_+_}
 use native.Mathlib.Omega.{arith}
 use borrow.Author.Needs.{needs}
-use lib.ListN.{length, drop}
+use lib.ListN.{drop}
 use Rattle.number.specs.Digits.{front, isDigit}
 use Rattle.number.proofs.Decimals.{pointed-none, pointed-some}
 use Rattle.number.proofs.decimal.fraction.Statement.{statement}
 use Rattle.number.proofs.decimal.fraction.Tie as tie
-use Rattle.number.proofs.decimal.fraction.Reads as reads
-use Rattle.number.proofs.decimal.fraction.Lts as lts
-use Rattle.number.proofs.decimal.with_part.Reads as with-part-reads
-use Rattle.number.proofs.digits.run_end.Reads as run-end-reads
 
 add-from : tie.Need-add-from
 add-from c = search needs

@@ -1,15 +1,13 @@
 -- `lowered` doubles the divisor: it is d times a power of two, and at most n, so few doublings pass n.
 -- Assumes nothing.
-use mathlib.Core.Path.{_≡_, refl, sym}
-use Prim.Native.Nat.{ℕ, _+_, _*_, _-_, _^_, _≤_, _<_}
+use mathlib.Core.Path.{_≡_, sym}
+use Prim.Native.Nat.{_*_, _-_, _^_, _≤_, _<_}
 use native.Mathlib.Nat.{mul-one}
 use native.Mathlib.Omega.{arith}
 use lib.Pow.{pow-pos}
 use Rattle.number.proofs.Powers.{pow-more, twice-scaled, exponent-lt}
 use Rattle.number.proofs.decimal.lowered.Statement.{statement}
 use Rattle.number.proofs.decimal.lowered.Tie as tie
-use Rattle.number.proofs.decimal.lowered.Reads as reads
-use Rattle.number.proofs.decimal.lowered.Lts as lts
 
 abbrev Inv-loop : tie.InvT-loop
 Inv-loop n d number₀ by₀ number by = (number ≡ d * 2 ^ by) × (2 ^ by ≤ number) × (number ≤ n) × (by ≤ 60)

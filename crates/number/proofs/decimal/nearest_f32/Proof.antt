@@ -2,18 +2,13 @@
 -- Assumes nothing.
 use mathlib.Core.Path.{_≡_, refl, sym, ap, _∙_}
 use mathlib.Core.Bool.{false}
-use Prim.Native.Nat.{ℕ, _+_, _-_, _*_, _^_, _≤_}
+use Prim.Native.Nat.{ℕ, _+_, _-_, _*_, _^_}
 use native.Mathlib.Omega.{arith}
 use borrow.Author.Needs.{needs}
 use lib.Ieee.{binary32, round, ofBits}
 use Rattle.number.proofs.Rounding.{round-zero, raised-same, lowered-same}
 use Rattle.number.proofs.decimal.nearest_f32.Statement.{statement}
 use Rattle.number.proofs.decimal.nearest_f32.Tie as tie
-use Rattle.number.proofs.decimal.nearest_f32.Reads as reads
-use Rattle.number.proofs.decimal.nearest_f32.Lts as lts
-use Rattle.number.proofs.decimal.assembled.Reads as assembled-reads
-use Rattle.number.proofs.decimal.lowered.Reads as lowered-reads
-use Rattle.number.proofs.decimal.raised.Reads as raised-reads
 
 zero-is : round binary32 false 0 1 ≡ ofBits binary32 0
 unfolding round ofBits

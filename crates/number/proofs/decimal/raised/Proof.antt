@@ -1,16 +1,13 @@
 -- `raised` doubles: the number is n times a power of two that it is itself at least as large as, so few doublings reach d.
 -- Assumes nothing.
-use mathlib.Core.Path.{_≡_, refl, sym}
-use Prim.Native.Nat.{ℕ, _+_, _*_, _-_, _^_, _≤_, _<_}
+use mathlib.Core.Path.{_≡_, sym}
+use Prim.Native.Nat.{_*_, _-_, _^_, _≤_, _<_}
 use native.Mathlib.Nat.{mul-one}
 use native.Mathlib.Omega.{arith}
-use borrow.Author.Needs.{needs}
 use lib.Pow.{pow-pos}
 use Rattle.number.proofs.Powers.{pow-more, twice-scaled, exponent-lt}
 use Rattle.number.proofs.decimal.raised.Statement.{statement}
 use Rattle.number.proofs.decimal.raised.Tie as tie
-use Rattle.number.proofs.decimal.raised.Reads as reads
-use Rattle.number.proofs.decimal.raised.Lts as lts
 
 abbrev Inv-loop : tie.InvT-loop
 Inv-loop n d number₀ by₀ number by = (number ≡ n * 2 ^ by) × (2 ^ by ≤ number) × (number < 2 * d) × (by ≤ 60)

@@ -6,8 +6,6 @@ use borrow.Author.Needs.{needs}
 use Rattle.number.proofs.Rounding.{nearest-down, nearest-up, nearest-tie}
 use Rattle.number.proofs.decimal.rounded.Statement.{statement}
 use Rattle.number.proofs.decimal.rounded.Tie as tie
-use Rattle.number.proofs.decimal.rounded.Reads as reads
-use Rattle.number.proofs.decimal.rounded.Lts as lts
 
 mul-twice : tie.Need-mul-twice
 mul-twice c = search needs

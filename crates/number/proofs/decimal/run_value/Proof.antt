@@ -1,19 +1,14 @@
 -- `run_value` keeps a `Summing`: the digits passed make the value, and there is room for what is left of the run.
 -- Assumes nothing.
-use mathlib.Core.Path.{_≡_, refl, sym, ap, _∙_}
-use mathlib.Core.Bool.{true}
-use Prim.Native.Nat.{ℕ, _+_, _-_, _*_, _≤_}
+use mathlib.Core.Path.{refl, sym, _∙_}
+use Prim.Native.Nat.{_+_, _-_, _*_}
 use native.Mathlib.Omega.{arith}
 use borrow.Author.Needs.{needs}
-use lib.ListN.{length, drop, getD}
-use Rattle.number.specs.Digits.{front, isDigit}
+use lib.ListN.{length}
+use Rattle.number.specs.Digits.{isDigit}
 use Rattle.number.proofs.Runs.{Summing, summing-room, summing-more, summing-stopped, front-end, front-stop}
 use Rattle.number.proofs.decimal.run_value.Statement.{statement}
 use Rattle.number.proofs.decimal.run_value.Tie as tie
-use Rattle.number.proofs.decimal.run_value.Reads as reads
-use Rattle.number.proofs.decimal.run_value.Lts as lts
-use Rattle.number.proofs.digits.digit.Reads as digit-reads
-use Rattle.number.proofs.digits.is_digit.Reads as is-digit-reads
 
 abbrev Inv-loop : tie.InvT-loop
 Inv-loop s i v at₀ value₀ at value = Summing s i v at value

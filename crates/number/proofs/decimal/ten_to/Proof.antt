@@ -1,14 +1,12 @@
 -- `ten_to` multiplies k times: after i turns the power is 10 ^ i, which fits since i is at most 18.
 -- Assumes nothing.
-use mathlib.Core.Path.{_≡_, refl, sym, ap, _∙_}
-use Prim.Native.Nat.{ℕ, _+_, _*_, _-_, _^_, _≤_, _<_}
+use mathlib.Core.Path.{_≡_, refl, ap, _∙_}
+use Prim.Native.Nat.{ℕ, _-_, _^_, _≤_}
 use native.Mathlib.Nat.{pow-le-pow-right}
 use native.Mathlib.Omega.{arith}
 use Rattle.number.proofs.Powers.{pow-more}
 use Rattle.number.proofs.decimal.ten_to.Statement.{statement}
 use Rattle.number.proofs.decimal.ten_to.Tie as tie
-use Rattle.number.proofs.decimal.ten_to.Reads as reads
-use Rattle.number.proofs.decimal.ten_to.Lts as lts
 
 abbrev Inv-loop : tie.InvT-loop
 Inv-loop k power₀ i₀ power i = (power ≡ 10 ^ i) × (i ≤ k)

@@ -1,9 +1,9 @@
 -- `whole_number` is the definition's judgement with no digit after the point: up to 18 digits, the value over 1.
 -- Assumes nothing.
-use mathlib.Core.Path.{_≡_, refl, sym, ap, _∙_}
+use mathlib.Core.Path.{ap, _∙_}
 use mathlib.Core.Bool.{false}
 use mathlib.Core.List.{[]}
-use Prim.Native.Nat.{ℕ, _+_, _-_, _*_, _^_, _≤_}
+use Prim.Native.Nat.{ℕ, _-_, _≤_}
 use native.Mathlib.Omega.{arith}
 use borrow.Author.Needs.{needs}
 use lib.ListN.{length, drop}
@@ -12,10 +12,6 @@ use Rattle.number.specs.Digits.{front, isDigit}
 use Rattle.number.proofs.Decimals.{judged-long, judged-whole, room-first, value-room}
 use Rattle.number.proofs.decimal.whole_number.Statement.{statement}
 use Rattle.number.proofs.decimal.whole_number.Tie as tie
-use Rattle.number.proofs.decimal.whole_number.Reads as reads
-use Rattle.number.proofs.decimal.whole_number.Lts as lts
-use Rattle.number.proofs.decimal.nearest_f32.Reads as nearest-f32-reads
-use Rattle.number.proofs.decimal.run_value.Reads as run-value-reads
 
 sub-if1 : tie.Need-sub-if1
 sub-if1 c = search needs

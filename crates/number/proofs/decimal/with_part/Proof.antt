@@ -1,8 +1,7 @@
 -- `with_part` is the definition's judgement of two runs of digits: up to 18 together, the value of one read after the other.
 -- Assumes nothing.
-use mathlib.Core.Path.{_≡_, refl, sym, ap, ap₂, _∙_, subst}
+use mathlib.Core.Path.{_≡_, sym, ap, ap₂, _∙_, subst}
 use mathlib.Core.Bool.{false}
-use mathlib.Core.List.{[]}
 use Prim.Native.Nat.{ℕ, _+_, _-_, _*_, _^_, _≤_, _<_}
 use native.Mathlib.Nat.{pow-le-pow-right, one-le-pow}
 use native.Mathlib.Omega.{arith}
@@ -13,11 +12,6 @@ use Rattle.number.specs.Digits.{front, isDigit, valueFrom}
 use Rattle.number.proofs.Decimals.{judged-long, judged-value, room-first, room-second, value-room}
 use Rattle.number.proofs.decimal.with_part.Statement.{statement}
 use Rattle.number.proofs.decimal.with_part.Tie as tie
-use Rattle.number.proofs.decimal.with_part.Reads as reads
-use Rattle.number.proofs.decimal.with_part.Lts as lts
-use Rattle.number.proofs.decimal.nearest_f32.Reads as nearest-f32-reads
-use Rattle.number.proofs.decimal.run_value.Reads as run-value-reads
-use Rattle.number.proofs.decimal.ten_to.Reads as ten-to-reads
 
 add-from : tie.Need-add-from
 add-from c = search needs

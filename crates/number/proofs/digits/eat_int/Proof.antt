@@ -1,20 +1,15 @@
 -- `eat_int` keeps a `Reading`: the digits passed make v, and what is left of the run makes the rest of its value.
 -- Assumes nothing.
-use mathlib.Core.Path.{_≡_, refl, sym, ap, _∙_}
+use mathlib.Core.Path.{_≡_, sym, _∙_}
 use mathlib.Core.Bool.{true}
-use Prim.Native.Nat.{ℕ, _+_, _-_, _≤_}
+use Prim.Native.Nat.{_-_}
 use native.Mathlib.Omega.{arith}
 use borrow.Author.Needs.{needs}
-use lib.ListN.{length, drop, getD}
-use Rattle.number.specs.Digits.{front, isDigit}
+use lib.ListN.{length, getD}
+use Rattle.number.specs.Digits.{isDigit}
 use Rattle.number.proofs.Runs.{Reading, reading-none, reading-more, reading-over, reading-stopped, front-end, front-stop}
 use Rattle.number.proofs.digits.eat_int.Statement.{statement}
 use Rattle.number.proofs.digits.eat_int.Tie as tie
-use Rattle.number.proofs.digits.eat_int.Reads as reads
-use Rattle.number.proofs.digits.eat_int.Lts as lts
-use Rattle.number.proofs.digits.digit.Reads as digit-reads
-use Rattle.number.proofs.digits.found.Reads as found-reads
-use Rattle.number.proofs.digits.is_digit.Reads as is-digit-reads
 
 abbrev Inv-loop : tie.InvT-loop
 Inv-loop s i limit at₀ v₀ at v = Reading limit s i at v

@@ -4,8 +4,6 @@ use borrow.Author.Tests.{le-leb, lt-leb}
 use Rattle.number.specs.Digits.{isDigit}
 use Rattle.number.proofs.digits.is_digit.Statement.{statement}
 use Rattle.number.proofs.digits.is_digit.Tie as tie
-use Rattle.number.proofs.digits.is_digit.Reads as reads
-use Rattle.number.proofs.digits.is_digit.Lts as lts
 
 returns : tie.Need-returns
 unfolding isDigit

@@ -1,17 +1,14 @@
 -- `run_end` walks the run byte by byte: what is left of it from `at` on, added to `at`, stays the same place.
 -- Assumes nothing.
 use mathlib.Core.Path.{_≡_, refl, sym, ap, _∙_}
-use Prim.Native.Nat.{ℕ, _+_, _-_, _≤_}
+use Prim.Native.Nat.{_+_, _-_}
 use native.Mathlib.Omega.{arith}
 use borrow.Author.Needs.{needs}
 use lib.ListN.{length, drop}
 use Rattle.number.specs.Digits.{front, isDigit}
-use Rattle.number.proofs.Runs.{front-end, front-stop, front-more, length-more}
+use Rattle.number.proofs.Runs.{front-end, front-stop, length-more}
 use Rattle.number.proofs.digits.run_end.Statement.{statement}
 use Rattle.number.proofs.digits.run_end.Tie as tie
-use Rattle.number.proofs.digits.run_end.Reads as reads
-use Rattle.number.proofs.digits.run_end.Lts as lts
-use Rattle.number.proofs.digits.is_digit.Reads as is-digit-reads
 
 abbrev Inv-loop : tie.InvT-loop
 Inv-loop s i at₀ at = at + length (front isDigit (drop at s)) ≡ i + length (front isDigit (drop i s))

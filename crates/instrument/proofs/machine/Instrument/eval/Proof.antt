@@ -1,7 +1,7 @@
 -- `eval` keeps a `Running`: what is left of the commands, run from the state in the arrays, gives what the whole list gives.
 -- Assumes nothing.
-use mathlib.Core.Path.{_≡_, refl, sym, ap, _∙_}
-use Prim.Native.Nat.{ℕ, _+_, _-_, _≤_, _<_, min}
+use mathlib.Core.Path.{_≡_, refl, sym, _∙_}
+use Prim.Native.Nat.{_-_, _≤_, min}
 use native.Mathlib.Omega.{arith}
 use borrow.Author.Needs.{needs}
 use lib.ListN.{length, length-map}
@@ -10,11 +10,6 @@ use Rattle.sine.specs.Quarter.{quarter}
 use Rattle.instrument.proofs.Running.{Running, running-start, running-more, running-end}
 use Rattle.instrument.proofs.machine.Instrument.eval.Statement.{statement}
 use Rattle.instrument.proofs.machine.Instrument.eval.Tie as tie
-use Rattle.instrument.proofs.machine.Instrument.eval.Reads as reads
-use Rattle.instrument.proofs.machine.Instrument.eval.Lts as lts
-use Rattle.instrument.proofs.machine.at_most_64.Reads as at-most-64-reads
-use Rattle.instrument.proofs.machine.step.Reads as step-reads
-use Rattle.sine.proofs.quarter.table.Reads as table-reads
 
 abbrev Inv-loop : tie.InvT-loop
 Inv-loop f d t self table counts₀ saved₀ value₀ depth₀ count k₀ counts saved value depth k =

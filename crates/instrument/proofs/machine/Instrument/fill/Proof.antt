@@ -1,30 +1,21 @@
 -- `fill` keeps the front of the slice filled: the inner loop keeps a `Running`, whose end is the value that the outer loop mixes in.
 -- Assumes nothing.
-use mathlib.Core.Path.{_≡_, refl, sym, ap, ap₂, subst, _∙_}
-use mathlib.Core.Bool.{true}
-use Prim.Native.Nat.{ℕ, _+_, _-_, _*_, _≤_, _<_, min}
+use mathlib.Core.Path.{_≡_, refl, sym, ap, _∙_}
+use Prim.Native.Nat.{ℕ, _+_, _-_, _≤_, _<_, min}
 use native.Mathlib.Nat.{le-of-lt}
 use native.Mathlib.Omega.{arith}
 use borrow.Author.Needs.{needs}
-use lib.Dec.{T, le→leb}
+use lib.Dec.{le→leb}
 use lib.IntN.{pos}
-use lib.ListN.{length, length-map, getD}
-use lib.Ieee.{Float, nan, ofBits, binary32, mul, div, ofInt, inFloat}
+use lib.ListN.{length, length-map}
+use lib.Ieee.{ofBits, binary32, div, ofInt, inFloat}
 use Rattle.sine.specs.Quarter.{quarter}
 use Rattle.instrument.specs.Evaluation.{one}
-use Rattle.instrument.specs.Fill.{countFrom, mixed, filled, soundFrom}
+use Rattle.instrument.specs.Fill.{countFrom, filled, soundFrom}
 use Rattle.instrument.proofs.Filling.{Front, front-none, front-length, front-next, sound-is}
 use Rattle.instrument.proofs.Running.{Running, running-start, running-more, running-end}
 use Rattle.instrument.proofs.machine.Instrument.fill.Statement.{statement}
 use Rattle.instrument.proofs.machine.Instrument.fill.Tie as tie
-use Rattle.instrument.proofs.machine.Instrument.fill.Reads as reads
-use Rattle.instrument.proofs.machine.Instrument.fill.Lts as lts
-use Rattle.instrument.proofs.machine.at_most_64.Reads as at-most-64-reads
-use Rattle.instrument.proofs.machine.mix.Reads as mix-reads
-use Rattle.instrument.proofs.machine.room_from.Reads as room-from-reads
-use Rattle.instrument.proofs.machine.step.Reads as step-reads
-use Rattle.sine.proofs.quarter.table.Reads as table-reads
-use Rattle.std.proofs.num.nearest_u32_to_f32.Reads as nearest-u32-to-f32-reads
 
 abbrev Inv-loop2 : tie.InvT-loop2
 Inv-loop2 out amplitude f d rate first added self table counts₀ saved₀ unit count room i t sound₀ depth₀ k₀ counts saved sound depth k =
