@@ -1,0 +1,197 @@
+"""Compares the proved instrument with the given Rust, bit for bit.
+
+    tools/compare/instrument [SEED]
+    tools/compare/instrument store
+
+It asks both for the same values and stretches of samples, thrown by dice, and prints one line with
+the counts. A difference ends it with status 1 and the smallest question that shows one; where
+something needed is not at hand it says so and ends with 3. `store` writes the requests that
+crates/ask_instrument keeps, and what the Rust answers to them.
+"""
+
+import re
+import struct
+import subprocess
+import sys
+from pathlib import Path
+
+sys.dont_write_bytecode = True
+ROOT = Path(__file__).resolve().parent.parent.parent
+sys.path.append(str(ROOT / "oracle"))
+
+import bits32
+import asked
+import cases
+import programs
+from dice import Dice
+
+SEED = 1
+SECONDS = 120
+CRATE = ROOT / "crates" / "ask_instrument"
+EXAMPLES = ROOT / "crates" / "instrument" / "proofs" / "Examples.antt"
+TWO_PI = bits32.mul(cases.TWO, 0x4049_0FDB)
+
+
+class Differs(Exception):
+    """The two do not agree."""
+
+
+def rust(mode, text):
+    """The bit patterns that the Rust prints."""
+    printed, trouble = programs.run("ruled", mode, text.encode("ascii"), SECONDS)
+    if trouble:
+        raise programs.Broken(f"ruled {mode} {trouble}")
+    return [int(word, 16) for word in printed.split()]
+
+
+def expected(asking):
+    """What must be answered to each question, from the Rust's values; and how many values."""
+    text, sizes = asked.lines(asking)
+    values = rust("eval", text)
+    if len(values) != sum(sizes):
+        raise programs.Broken("the Rust did not answer every question")
+    return asked.answers(asking, values, sizes), len(values)
+
+
+def proved(records):
+    """What the proved program answers."""
+    done = subprocess.run(
+        [ROOT / "tools" / "run", "ask_instrument"], input=records, capture_output=True, timeout=SECONDS
+    )
+    if done.returncode == programs.STATUS_CANNOT_RUN:
+        raise programs.CannotRun(done.stderr.decode().strip())
+    if done.returncode != 0:
+        raise programs.Broken(f"ask_instrument ended with status {done.returncode}")
+    return done.stdout
+
+
+# ---- differences
+
+
+def words(answer):
+    return struct.unpack(f"<{len(answer) // 4}I", answer)
+
+
+def first_apart(wanted, found):
+    """The first number in which two answers differ."""
+    for k, (one, other) in enumerate(zip(words(wanted), words(found))):
+        if one != other:
+            return f"number {k} of the answer: the Rust {one:08x}, ask_instrument {other:08x}"
+    return "ask_instrument answered less"
+
+
+def differences(asking, answers, found):
+    """For each question that is answered apart: its size, and an account of it."""
+    place, answers = 0, iter(answers)
+    for instrument, questions in asking:
+        for question in questions:
+            wanted = next(answers)
+            answer = found[place : place + len(wanted)]
+            place += len(wanted)
+            if answer != wanted:
+                account = instrument.lines() + [question.account(), first_apart(wanted, answer)]
+                yield len(account), len(wanted), "\n".join(account)
+
+
+def compare(asking):
+    """How many questions and values agree; raises Differs with the smallest that does not."""
+    answers, count = expected(asking)
+    found = proved(asked.records(asking))
+    if found != b"".join(answers):
+        apart = sorted(differences(asking, answers, found))
+        what = apart[0][2] if apart else "ask_instrument answered more than it was asked"
+        raise Differs(f"{len(apart)} of {len(answers)} answers differ; the smallest:\n{what}")
+    return len(answers), count
+
+
+# ---- what is kept
+
+
+def store():
+    asking = cases.samples()
+    (CRATE / "stdin").write_bytes(asked.records(asking))
+    (CRATE / "stdout").write_bytes(b"".join(expected(asking)[0]))
+
+
+def check_stored():
+    asking = cases.samples()
+    if (CRATE / "stdin").read_bytes() != asked.records(asking):
+        raise Differs("crates/ask_instrument/stdin is not what `tools/compare/instrument store` writes")
+    if (CRATE / "stdout").read_bytes() != b"".join(expected(asking)[0]):
+        raise Differs("crates/ask_instrument/stdout is not what the Rust answers")
+
+
+# ---- the worked examples
+
+
+def worked_example(name):
+    """The bits that a theorem of proofs/Examples.antt gives."""
+    found = re.search(rf"^pub {name} : .* ≡ 0x([0-9a-f]+)$", EXAMPLES.read_text(encoding="utf-8"), re.M)
+    if not found:
+        raise programs.Broken(f"proofs/Examples.antt has no {name}")
+    return int(found[1], 16)
+
+
+def value_of(instrument):
+    return expected([asked.Case(instrument, [cases.EIGHTH])])[0][0]
+
+
+def tree_by_parts():
+    """The tree's value from single operators: two children, their sum, and the sine that it modulates."""
+    (child,) = words(value_of(asked.Instrument((cases.UNIT,))))
+    turn = bits32.mul(bits32.mul(bits32.mul(TWO_PI, cases.EIGHTH.f), cases.UNIT.freqratio), cases.EIGHTH.t)
+    phase = bits32.add(turn, bits32.add(child, child))
+    # The operator's amplitude and sustain are 1.
+    return rust("floats", f"{phase:08x}\n")[0]
+
+
+def check_examples():
+    """01's commands and the tree part where two neighbours have equal indent; both values are the Rust's."""
+    lines = cases.from_lines((0, 1, 1), (cases.UNIT,) * 3)
+    summed = asked.Instrument((cases.UNIT, asked.Stack(0), cases.UNIT, cases.UNIT))
+    for name, found in (
+        ("by-commands", words(value_of(lines))[0]),
+        ("by-the-tree", tree_by_parts()),
+        ("by-the-tree", words(value_of(summed))[0]),
+    ):
+        wanted = worked_example(name)
+        if found != wanted:
+            raise Differs(f"{name} of proofs/Examples.antt is {wanted:08x}, the Rust gives {found:08x}")
+
+
+# ---- the comparison
+
+
+def note_frequencies():
+    return [int(line.split()[1], 16) for line in programs.frequencies("ruled")]
+
+
+def whole_comparison(seed):
+    check_stored()
+    check_examples()
+    asking = cases.thrown(Dice(seed), note_frequencies())
+    answers, count = compare(asking)
+    return (
+        f"{len(asking)} instruments, {answers} answers, {count} values (seed {seed}); "
+        "the stored answers and both worked examples: no difference"
+    )
+
+
+def main(arguments):
+    try:
+        programs.build()
+        if arguments == ["store"]:
+            store()
+        else:
+            print("instrument:", whole_comparison(int(arguments[0]) if arguments else SEED))
+        return 0
+    except programs.CannotRun as absent:
+        print(absent)
+        return programs.STATUS_CANNOT_RUN
+    except (programs.Broken, Differs) as fault:
+        print(f"instrument: {fault}")
+        return 1
+
+
+if __name__ == "__main__":
+    sys.exit(main(sys.argv[1:]))
