@@ -70,7 +70,7 @@ impl Operator {
 
     // The operator's value at time t of a note of frequency f and duration d, modulated by an input; the
     // sine's table is lent.
-    pub fn eval_by(self, table: &[u32; 1025], f: f32, d: f32, t: f32, input: f32) -> f32
+    pub(crate) fn eval_by(self, table: &[u32; 1025], f: f32, d: f32, t: f32, input: f32) -> f32
         requires { ⌜ now table ≡ quarter ⌝ }
         ensures { λ r. ⌜ r ≡ operatorAt f d t self input ⌝ }
     {
