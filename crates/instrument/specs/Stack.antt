@@ -1,5 +1,5 @@
 -- The machine's stack as the code keeps it: two arrays of 64, the counts and the saved values, of which the first `depth` are in
--- use; the last of those is the top. Assumes nothing.
+-- use; the last of those is the top. Private functions' contracts cite this, and no public one. Assumes nothing.
 use mathlib.Core.Path.{_≡_}
 use mathlib.Core.List.{List, [], _∷_}
 use Prim.Native.Nat.{ℕ, zero, suc, _+_, _≤_}

@@ -1,5 +1,5 @@
--- Where a float stands on the turn: what the turn sine keeps of x beside its sign, for the contracts of its parts.
--- Assumes nothing.
+-- Where a float stands on the turn: what the turn sine keeps of x beside its sign. Private functions' contracts cite this, and no
+-- public one. Assumes nothing.
 use Prim.Native.Nat.{ℕ}
 use lib.Ieee.{Float, nan, inf, fin}
 use Rattle.sine.specs.Turn.{position}
