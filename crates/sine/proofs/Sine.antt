@@ -2,18 +2,19 @@
 -- is odd below 2^31. What carries them is that S / 2^24 is exact and that rounding does not look at the sign. Assumes nothing.
 use mathlib.Core.Path.{_≡_, refl, sym, ap, _∙_}
 use mathlib.Core.Logic.{_⊎_, inl, inr}
-use mathlib.Core.Bool.{Bool, true, false, not, _&&_, _||_, cond}
-use Prim.Native.Nat.{ℕ, zero, suc, _+_, _*_, _^_, _≤_, _<_}
+use mathlib.Core.Bool.{Bool, true, false, not, _&&_, _||_}
+use Prim.Native.Nat.{ℕ, _+_, _*_, _^_, _≤_, _<_}
 use native.Mathlib.Nat.{eq-or-lt-of-le, le-trans, le-of-eq, mul-comm, mul-le-mul-right, le-of-mul-le-mul-right, mul-assoc, lt-of-le-of-lt}
 use native.Mathlib.Omega.{arith}
 use lib.Dec.{T, leb, ltb, eqb, lt→ltb, lit<, lit≤}
 use lib.IntN.{ℤ, pos}
 use lib.Pow.{pow-pos}
-use lib.Ieee.{Float, nan, inf, fin, binary32, up, down, unlike, odd, units, round, neg, le, fits}
+use lib.Ieee.{Float, nan, inf, fin, binary32, up, down, unlike, round, neg, le, fits}
 use lib.Ieee.Bits.{is-true, is-false}
 use lib.Ieee.Exact.{HasValue, round-exact}
-use lib.Ieee.Fits.{down-pos, nan-fits, round-fits, round-is, eq→eqb}
+use lib.Ieee.Fits.{down-pos, nan-fits, round-fits, eq→eqb}
 use lib.Ieee.Scale.{finite}
+use Rattle.ieee.proofs.Sign.{round-neg}
 use Rattle.sine.specs.Turn.{position, quarterOf, folded, height, sineAt, turnSine}
 use Rattle.sine.proofs.Heights.{folded-le, height-le}
 
@@ -144,24 +145,6 @@ sine-bounded (fin s m e) h =
 
 -- ---- it is odd
 
--- a float of the other sign
-odd-neg : (d : ℕ) (s : Bool) (q k l : ℕ) → odd d (not s) q k l ≡ neg (odd d s q k l)
-unfolding odd neg
-odd-neg d s zero k l = refl
-odd-neg d s (suc q) k l = refl
-
-units-neg : (s : Bool) (q k : ℕ) → units binary32 (not s) q k ≡ neg (units binary32 s q k)
-unfolding units
-units-neg s q k = go (ltb (q * 2 ^ k) (2 ^ 277))
-  where
-    go : (b : Bool) → cond b (odd 25 (not s) q k 149) (inf (not s)) ≡ neg (cond b (odd 25 s q k 149) (inf s))
-    go true = odd-neg 25 s q k 149
-    go false = unfold neg in refl
-
--- rounding does not look at the sign
-round-neg : (s : Bool) (n d : ℕ) → round binary32 (not s) n d ≡ neg (round binary32 s n d)
-round-neg s n d = round-is binary32 (not s) n d ∙ units-neg s _ _ ∙ ap neg (sym (round-is binary32 s n d))
-
 -- the other sign of x turns the sign of the sine
 turned : (s t : Bool) → unlike (not s) t ≡ not (unlike s t)
 turned true true = refl
@@ -171,7 +154,7 @@ turned false false = refl
 
 at-neg : (s : Bool) (p : ℕ) → sineAt (not s) p ≡ neg (sineAt s p)
 unfolding sineAt
-at-neg s p = ap (λ (b : Bool). round binary32 b (height (folded p)) (2 ^ 24)) (turned s (leb 2 (quarterOf p))) ∙ round-neg (unlike s (leb 2 (quarterOf p))) (height (folded p)) (2 ^ 24)
+at-neg s p = ap (λ (b : Bool). round binary32 b (height (folded p)) (2 ^ 24)) (turned s (leb 2 (quarterOf p))) ∙ round-neg binary32 (unlike s (leb 2 (quarterOf p))) (height (folded p)) (2 ^ 24)
 
 -- the sine of -x is the negated sine of x, but for the x of which document 01 gives 0.0 outright
 pub sine-neg : (x : Float) → T (not (beyond x)) → turnSine (neg x) ≡ neg (turnSine x)

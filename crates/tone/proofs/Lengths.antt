@@ -15,7 +15,7 @@ use Rattle.tone.specs.declared.time.Length.{Length}
 use Rattle.tone.specs.declared.time.Length.the-variants.{Samples, Negative, TooMany}
 use Rattle.tone.specs.Time.{ceiling, countOf, lengthOf, noteMost}
 use Rattle.tone.proofs.Counts.{ceiling-grows, counted, whole-value}
-use Rattle.tone.proofs.Nonnegative.{nonnegative, le-fractions, times-nonnegative, times-grows, add-nonnegative, add-grows}
+use Rattle.ieee.proofs.Nonnegative.{nonnegative, le-fractions, times-nonnegative, times-grows, add-nonnegative, add-grows}
 
 -- ---- what a number of samples says
 

@@ -2,5 +2,4 @@ pub mod Counts
 pub mod Durations
 pub mod Examples
 pub mod Lengths
-pub mod Nonnegative
 pub mod Powers

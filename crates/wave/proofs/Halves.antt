@@ -14,7 +14,7 @@ use lib.Ieee.Exact.{HasValue, round-exact}
 use lib.Ieee.Scale.{round-same}
 use lib.Ieee.Nearest.{div-same}
 use borrow.Author.Tests.{ltb-true, ltb-false}
-use Rattle.tone.proofs.Nonnegative.{in-units}
+use Rattle.ieee.proofs.Nonnegative.{in-units}
 use Rattle.wave.specs.Sample.{halfUp, nearestWhole, AtMostScale}
 
 -- ---- what `halfUp` is: the h with h - 1/2 ≤ n / d < h + 1/2, the whole number nearest to n / d, and the larger of two that are as near

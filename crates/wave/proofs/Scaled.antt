@@ -1,18 +1,19 @@
 -- A sample that is clamped to -1..1 and multiplied by 32767.5 lies from -32767.5 to 32767.5, or is NaN: rounding keeps the order, and both ends are
 -- floats. So its nearest whole number needs 16 bits. Assumes nothing.
-use mathlib.Core.Path.{_≡_, refl, sym, ap, _∙_, subst}
-use mathlib.Core.Bool.{Bool, true, false, true≢false, cond}
-use Prim.Native.Nat.{ℕ, zero, suc, _+_, _-_, _*_, _%_, _^_, _≤_, _<_, min}
+use mathlib.Core.Path.{_≡_, refl, sym, subst}
+use mathlib.Core.Bool.{Bool, true, false, true≢false}
+use Prim.Native.Nat.{ℕ, zero, suc, _-_, _*_, _%_, _≤_, _<_, min}
 use native.Mathlib.Nat.{mul-pos, le-of-suc-le-suc, div-lt-iff-lt-mul, div-eq-of-lt}
 use native.Mathlib.Omega.{arith}
 use lib.Dec.{T, ltb, eqb, ltb→lt, eqb→eq}
 use lib.IntN.{pos, negℤ}
-use lib.Ieee.{Float, nan, inf, fin, Format, binary32, prec, emax, low, up, down, unlike, mul, neg, lt, le, ne, round, units, odd}
-use lib.Ieee.Fits.{down-pos, and-l, round-is}
+use lib.Ieee.{Float, nan, inf, fin, binary32, up, down, unlike, mul, neg, lt, le, ne, round}
+use lib.Ieee.Fits.{down-pos, and-l}
 use lib.Ieee.Compare.{differs-from-itself}
 use lib.Ieee.Order.{round-mono}
 use borrow.Author.Tests.{ltb-true, ltb-false}
-use Rattle.tone.proofs.Nonnegative.{less-or-equal}
+use Rattle.ieee.proofs.Nonnegative.{less-or-equal}
+use Rattle.ieee.proofs.Sign.{round-neg}
 use Rattle.wave.specs.Sample.{one, minusOne, scale, clamp, halfUp, nearestWhole, AtMostScale, whole16, word}
 
 -- ---- clamped
@@ -56,24 +57,7 @@ clamp-small x = go (lt x minusOne) refl (lt one x) refl
 
 -- ---- rounded: what is at most 65535 / 2 stays so
 
--- a sign goes through rounding
-neg-odd : (d q k l : ℕ) → neg (odd d false q k l) ≡ odd d true q k l
-unfolding neg odd
-neg-odd d zero k l = refl
-neg-odd d (suc q) k l = refl
-
-neg-units : (f : Format) (q k : ℕ) → neg (units f false q k) ≡ units f true q k
-unfolding neg units
-neg-units f q k = go (ltb (q * 2 ^ k) (2 ^ (low f + suc (emax f))))
-  where
-    go : (b : Bool) → neg (cond b (odd (suc (prec f)) false q k (low f)) (inf false)) ≡ cond b (odd (suc (prec f)) true q k (low f)) (inf true)
-    go true = neg-odd (suc (prec f)) q k (low f)
-    go false = refl
-
-neg-round : (f : Format) (n d : ℕ) → neg (round f false n d) ≡ round f true n d
-neg-round f n d = ap neg (round-is f false n d) ∙ neg-units f _ _ ∙ sym (round-is f true n d)
-
--- and changes no size
+-- a sign changes no size
 neg-at-most : (x : Float) → AtMostScale x → AtMostScale (neg x)
 unfolding neg
 neg-at-most nan h = h
@@ -100,7 +84,7 @@ module _ (n d : ℕ) (p : 0 < d) (h : 2 * n ≤ 65535 * d) where
       at-most (round binary32 false n d) (round-mono binary32 0 1 n d (omega arith) p (omega arith)) (round-mono binary32 n d 65535 2 p (omega arith) (omega arith))
 
   round-at-most : (s : Bool) → AtMostScale (round binary32 s n d)
-  round-at-most true = subst AtMostScale (neg-round binary32 n d) (neg-at-most (round binary32 false n d) plain-at-most)
+  round-at-most true = subst AtMostScale (sym (round-neg binary32 false n d)) (neg-at-most (round binary32 false n d) plain-at-most)
   round-at-most false = plain-at-most
 
 -- ---- the product

@@ -1,0 +1,2 @@
+pub mod Nonnegative
+pub mod Sign
