@@ -1,3 +1,4 @@
+pub mod Accepted
 pub mod Demand3
 pub mod Descent
 pub mod Examples
