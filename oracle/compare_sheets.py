@@ -52,16 +52,9 @@ def compare(seed, count):
 def main(arguments):
     seed = int(arguments[0]) if arguments else SEED
     count = int(arguments[1]) if len(arguments) > 1 else COUNT
-    try:
-        programs.build()
-        return compare(seed, count) or store.check()
-    except programs.CannotRun as absent:
-        print(absent)
-        return programs.STATUS_CANNOT_RUN
-    except programs.Broken as broken:
-        print(f"compare-sheets: {broken}")
-        return 1
+    programs.build()
+    return compare(seed, count) or store.check()
 
 
 if __name__ == "__main__":
-    sys.exit(main(sys.argv[1:]))
+    sys.exit(programs.status_of("compare-sheets", lambda: main(sys.argv[1:])))

@@ -22,6 +22,18 @@ class Broken(Exception):
     """A program or the build failed."""
 
 
+def status_of(name, work):
+    """The exit status of a script's work: its own, or what a missing tool or a failure comes to."""
+    try:
+        return work()
+    except CannotRun as absent:
+        print(absent)
+        return STATUS_CANNOT_RUN
+    except Broken as broken:
+        print(f"{name}: {broken}")
+        return 1
+
+
 def build():
     """Builds both programs; gives the compiler's version and the flags."""
     done = subprocess.run([ROOT / "oracle" / "build"], capture_output=True, text=True)

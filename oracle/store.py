@@ -108,17 +108,10 @@ def check():
 
 
 def main(arguments):
-    try:
-        if arguments not in ([], ["--check"]):
-            raise programs.Broken("the only argument known is --check")
-        return check() if arguments else write()
-    except programs.CannotRun as absent:
-        print(absent)
-        return programs.STATUS_CANNOT_RUN
-    except programs.Broken as broken:
-        print(f"store: {broken}")
-        return 1
+    if arguments not in ([], ["--check"]):
+        raise programs.Broken("the only argument known is --check")
+    return check() if arguments else write()
 
 
 if __name__ == "__main__":
-    sys.exit(main(sys.argv[1:]))
+    sys.exit(programs.status_of("store", lambda: main(sys.argv[1:])))
