@@ -1,2 +1,3 @@
+pub mod Constants
 pub mod Nonnegative
 pub mod Sign

@@ -10,8 +10,9 @@ use lib.ListN.{length, getD, take, drop, set, length-append, length-drop}
 use lib.Seq.{drop-cons, take-suc, length-take-le, set-at, getD-at, append-snoc}
 use lib.IntN.{pos}
 use lib.Ieee.{Float, nan, binary32, mul, div, ofInt}
+use Rattle.ieee.specs.Constants.{one}
 use Rattle.instrument.specs.declared.machine.Instrument.{Instrument}
-use Rattle.instrument.specs.Evaluation.{one, instrumentAt}
+use Rattle.instrument.specs.Evaluation.{instrumentAt}
 use Rattle.instrument.specs.Fill.{mixed, mixedFrom, timeAt, soundAt, soundFrom}
 
 module _ (v : ℕ → Float) (added : ℕ) where

@@ -1,15 +1,14 @@
 -- Running an instrument's commands one by one: what is left of them, run from the state in the arrays, gives what the whole
 -- list gives. The loops that run an instrument keep this, and cite how it starts, goes on and ends. Assumes nothing.
 use mathlib.Core.Path.{_≡_, refl, sym, ap, _∙_}
-use mathlib.Core.Bool.{false}
 use mathlib.Core.List.{List, [], _∷_, map}
 use Prim.Native.Nat.{ℕ, suc, _+_, _-_, _≤_, _<_, min}
 use native.Mathlib.Omega.{arith}
 use native.Mathlib.Numerals.{add-one}
-use lib.IntN.{pos}
 use lib.ListN.{length, getD, take, drop, length-take, length-map, List·getD-map, drop-of-length-le}
 use lib.Seq.{drop-cons, getD-take}
-use lib.Ieee.{Float, fin}
+use lib.Ieee.{Float}
+use Rattle.ieee.specs.Constants.{plusZero}
 use Rattle.instrument.specs.declared.machine.Command.{Command}
 use Rattle.instrument.specs.declared.machine.Slot.{Slot}
 use Rattle.instrument.specs.declared.machine.Instrument.{Instrument}
@@ -19,7 +18,7 @@ use Rattle.instrument.specs.Stack.{stateOf, stepAt, runAt, Steps}
 
 -- the machine at the start
 abbrev start : State Float
-start = record { value = fin false 0 (pos 0); stack = [] }
+start = record { value = plusZero; stack = [] }
 
 -- k commands are run, and the state is in the arrays
 pub record Running (f d t : Float) (i : Instrument) (k depth : ℕ) (value : Float) (counts : List ℕ) (saved : List Float) : Type 0 where
@@ -29,7 +28,7 @@ pub record Running (f d t : Float) (i : Instrument) (k depth : ℕ) (value : Flo
   pub savedSize : length saved ≡ 64
 
 pub running-start : (f d t : Float) (i : Instrument) (counts : List ℕ) (saved : List Float) → length counts ≡ 64 → length saved ≡ 64
-    → Running f d t i 0 0 (fin false 0 (pos 0)) counts saved
+    → Running f d t i 0 0 plusZero counts saved
 unfolding stateOf
 running-start f d t i counts saved h g = record { rest = refl; shallow = omega arith; countsSize = h; savedSize = g }
 

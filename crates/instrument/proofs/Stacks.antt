@@ -1,15 +1,14 @@
 -- The stack in arrays: a store above its depth changes nothing, and what an operator does to the top entry is `settled`.
 -- Assumes nothing.
 use mathlib.Core.Path.{_≡_, refl, sym, ap, ap₂, subst, _∙_}
-use mathlib.Core.Bool.{false}
 use mathlib.Core.List.{List, _∷_}
 use Prim.Native.Nat.{ℕ, zero, suc, _+_, _-_, _≤_, _<_}
 use native.Mathlib.Omega.{arith}
 use native.Mathlib.Numerals.{add-one}
-use lib.IntN.{pos}
 use lib.ListN.{length, getD, set}
 use lib.Seq.{getD-set-same, getD-set-other}
-use lib.Ieee.{Float, nan, fin, binary32, add}
+use lib.Ieee.{Float, nan, binary32, add}
+use Rattle.ieee.specs.Constants.{plusZero}
 use Rattle.instrument.specs.declared.operator.Operator.{Operator}
 use Rattle.instrument.specs.declared.machine.Command.the-variants as Command
 use Rattle.instrument.specs.Evaluation.{operatorAt}
@@ -73,6 +72,6 @@ unfolding settledAt stepAt step stateOf
 step-operator f d t op depth value counts saved = refl
 
 pub step-stack : (f d t : Float) (n depth : ℕ) (value : Float) (counts : List ℕ) (saved : List Float) → depth < length counts → depth < length saved
-    → stateOf (fin false 0 (pos 0)) (depth + 1) (set counts depth n) (set saved depth value) ≡ stepAt f d t (Command.Stack n) (stateOf value depth counts saved)
+    → stateOf plusZero (depth + 1) (set counts depth n) (set saved depth value) ≡ stepAt f d t (Command.Stack n) (stateOf value depth counts saved)
 unfolding stepAt step stateOf
-step-stack f d t n depth value counts saved h g = ap (λ (s : List (Entry Float)). record { value = fin false 0 (pos 0); stack = s }) (stack-push depth n value counts saved h g)
+step-stack f d t n depth value counts saved h g = ap (λ (s : List (Entry Float)). record { value = plusZero; stack = s }) (stack-push depth n value counts saved h g)

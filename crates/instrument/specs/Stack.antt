@@ -3,10 +3,9 @@
 use mathlib.Core.Path.{_≡_}
 use mathlib.Core.List.{List, [], _∷_}
 use Prim.Native.Nat.{ℕ, zero, suc, _+_, _≤_}
-use lib.IntN.{pos}
-use mathlib.Core.Bool.{false}
 use lib.ListN.{length, getD}
-use lib.Ieee.{Float, nan, fin, binary32, add}
+use lib.Ieee.{Float, nan, binary32, add}
+use Rattle.ieee.specs.Constants.{plusZero}
 use Rattle.instrument.specs.declared.machine.Command.{Command}
 use Rattle.instrument.specs.Evaluation.{operatorAt}
 use Rattle.instrument.specs.Machine.{Entry, State, settled, step, run}
@@ -28,10 +27,10 @@ settledAt v stack = settled Float (add binary32) v stack
 
 -- the machine's step and run at floats
 unfoldable pub stepAt : Float → Float → Float → Command → State Float → State Float
-stepAt f d t = step Float (operatorAt f d t) (add binary32) (fin false 0 (pos 0))
+stepAt f d t = step Float (operatorAt f d t) (add binary32) plusZero
 
 unfoldable pub runAt : Float → Float → Float → List Command → State Float → State Float
-runAt f d t = run Float (operatorAt f d t) (add binary32) (fin false 0 (pos 0))
+runAt f d t = run Float (operatorAt f d t) (add binary32) plusZero
 
 -- what an operator that gave v does to the stack in arrays: the state afterwards is `settled`, and no entry is added
 pub record Settles (v : Float) (depth : ℕ) (counts : List ℕ) (saved : List Float) (value : Float) (depthAfter : ℕ) (countsAfter : List ℕ) : Type 0 where

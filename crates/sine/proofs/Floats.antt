@@ -13,6 +13,7 @@ use lib.Ieee.Exact.{HasValue}
 use lib.Ieee.Fits.{down-pos}
 use lib.Ieee.Scale.{round-same}
 use borrow.Author.Tests.{le-ltb}
+use Rattle.ieee.specs.Constants.{plusZero}
 
 -- ---- x - x
 
@@ -22,7 +23,7 @@ unfolding round
 zero-round s d h = round-same binary32 s 0 d 0 1 h (lit< tt) (sym (zero-mul d))
 
 -- a finite x less itself is 0.0
-pub less-itself : (s : Bool) (m : ℕ) (e : ℤ) → sub binary32 (fin s m e) (fin s m e) ≡ fin false 0 (pos 0)
+pub less-itself : (s : Bool) (m : ℕ) (e : ℤ) → sub binary32 (fin s m e) (fin s m e) ≡ plusZero
 unfolding sub add neg sum
 less-itself true m e =
     let a = m * up e * down e in

@@ -7,13 +7,14 @@ use Prim.Native.Nat.{ℕ, _+_, _*_, _^_, _≤_, _<_}
 use native.Mathlib.Nat.{eq-or-lt-of-le, le-trans, le-of-eq, mul-comm, mul-le-mul-right, le-of-mul-le-mul-right, mul-assoc, lt-of-le-of-lt}
 use native.Mathlib.Omega.{arith}
 use lib.Dec.{T, leb, ltb, eqb, lt→ltb, lit<, lit≤}
-use lib.IntN.{ℤ, pos}
+use lib.IntN.{ℤ}
 use lib.Pow.{pow-pos}
 use lib.Ieee.{Float, nan, inf, fin, binary32, up, down, unlike, round, neg, le, fits}
 use lib.Ieee.Bits.{is-true, is-false}
 use lib.Ieee.Exact.{HasValue, round-exact}
 use lib.Ieee.Fits.{down-pos, nan-fits, round-fits, eq→eqb}
 use lib.Ieee.Scale.{finite}
+use Rattle.ieee.specs.Constants.{minusOne, minusZero, one, plusZero}
 use Rattle.ieee.proofs.Sign.{round-neg}
 use Rattle.sine.specs.Turn.{position, quarterOf, folded, height, sineAt, turnSine}
 use Rattle.sine.proofs.Heights.{folded-le, height-le}
@@ -23,13 +24,6 @@ abbrev pub beyond : Float → Bool
 beyond nan = false
 beyond (inf s) = false
 beyond (fin s m e) = leb (2 ^ 31 * down e) (m * up e)
-
--- the two ends of the sine's range
-abbrev pub minus-one : Float
-minus-one = fin true 1 (pos 0)
-
-abbrev pub one : Float
-one = fin false 1 (pos 0)
 
 -- ---- where the sine is NaN, and where it is 0.0 outright
 
@@ -41,7 +35,7 @@ sine-not-finite (inf s) h = refl
 sine-not-finite (fin s m e) h = absurd h
 
 -- from 2^31 on the sine is 0.0
-pub sine-beyond : (x : Float) → T (beyond x) → turnSine x ≡ fin false 0 (pos 0)
+pub sine-beyond : (x : Float) → T (beyond x) → turnSine x ≡ plusZero
 unfolding turnSine
 sine-beyond nan h = absurd h
 sine-beyond (inf s) h = absurd h
@@ -53,11 +47,11 @@ unfolding turnSine
 sine-within s m e h = rw (is-false (leb (2 ^ 31 * down e) (m * up e)) h, turnSine)
 
 -- so what holds of 0.0 and of the sine at every position holds of the sine of every finite x
-of-finite : (P : Float → Type 0) → P (fin false 0 (pos 0)) → ((s : Bool) (p : ℕ) → P (sineAt s p)) → (s : Bool) (m : ℕ) (e : ℤ) → P (turnSine (fin s m e))
+of-finite : (P : Float → Type 0) → P plusZero → ((s : Bool) (p : ℕ) → P (sineAt s p)) → (s : Bool) (m : ℕ) (e : ℤ) → P (turnSine (fin s m e))
 unfolding turnSine
 of-finite P z f s m e = go (leb (2 ^ 31 * down e) (m * up e))
   where
-    go : (b : Bool) → P (elim b [ true ↦ fin false 0 (pos 0) | false ↦ sineAt s (position m e) ])
+    go : (b : Bool) → P (elim b [ true ↦ plusZero | false ↦ sineAt s (position m e) ])
     go true = z
     go false = f s (position m e)
 
@@ -70,7 +64,7 @@ sine-fits nan = nan-fits binary32
 sine-fits (inf s) = nan-fits binary32
 sine-fits (fin s m e) = of-finite (λ (y : Float). T (fits binary32 y)) zero-fits at-fits s m e
   where
-    zero-fits : T (fits binary32 (fin false 0 (pos 0)))
+    zero-fits : T (fits binary32 plusZero)
     zero-fits = unfold fits in tt
 
     at-fits : (t : Bool) (p : ℕ) → T (fits binary32 (sineAt t p))
@@ -111,7 +105,7 @@ down-to : (p q : ℕ) → p ≤ q → T (ltb p q || (eqb q p && true))
 down-to p q h = either (ltb p q) (eqb q p) (elim (eq-or-lt-of-le h) [ inl e ↦ inr (eq→eqb (sym e)) | inr l ↦ inl (lt→ltb p q l) ])
 
 -- a value of at most 1 in size lies from -1 to 1
-between : (y : Float) (s : Bool) (a c : ℕ) → 0 < c → a ≤ c → HasValue y s a c → T (le minus-one y) × T (le y one)
+between : (y : Float) (s : Bool) (a c : ℕ) → 0 < c → a ≤ c → HasValue y s a c → T (le minusOne y) × T (le y one)
 unfolding le
 between nan s a c cp h v = absurd v
 between (inf t) s a c cp h v = absurd v
@@ -120,7 +114,7 @@ between (fin t m e) s a c cp h v = go t
     small : m * up e ≤ down e
     small = le-of-mul-le-mul-right (le-trans (le-of-eq (v .1)) (le-trans (mul-le-mul-right (down e) h) (le-of-eq (mul-comm c (down e))))) cp
 
-    go : (t : Bool) → T (le minus-one (fin t m e)) × T (le (fin t m e) one)
+    go : (t : Bool) → T (le minusOne (fin t m e)) × T (le (fin t m e) one)
     go true =
         let p = m * up e * 1 in
         let q = 1 * down e in
@@ -131,13 +125,13 @@ between (fin t m e) s a c cp h v = go t
         (first (ltb 0 (q + p)) (eqb q p && eqb q 0) (lt→ltb 0 (q + p) (omega (arith, down-pos e))), up-to p q (omega (arith, small)))
 
 -- the sine of a finite x lies from -1 to 1
-pub sine-bounded : (x : Float) → T (finite x) → T (le minus-one (turnSine x)) × T (le (turnSine x) one)
+pub sine-bounded : (x : Float) → T (finite x) → T (le minusOne (turnSine x)) × T (le (turnSine x) one)
 sine-bounded nan h = absurd h
 sine-bounded (inf s) h = absurd h
 sine-bounded (fin s m e) h =
-    of-finite (λ (y : Float). T (le minus-one y) × T (le y one)) (between (fin false 0 (pos 0)) false 0 1 (lit< tt) (lit≤ tt) (refl, refl)) at-bounded s m e
+    of-finite (λ (y : Float). T (le minusOne y) × T (le y one)) (between plusZero false 0 1 (lit< tt) (lit≤ tt) (refl, refl)) at-bounded s m e
   where
-    at-bounded : (t : Bool) (p : ℕ) → T (le minus-one (sineAt t p)) × T (le (sineAt t p) one)
+    at-bounded : (t : Bool) (p : ℕ) → T (le minusOne (sineAt t p)) × T (le (sineAt t p) one)
     at-bounded t p =
         let n = height (folded p) in
         let l : n ≤ 2 ^ 24 = height-le (folded p) (folded-le p) in
@@ -169,6 +163,6 @@ unfolding neg
 sine-neg-beyond nan h e = absurd h
 sine-neg-beyond (inf s) h e = absurd h
 sine-neg-beyond (fin s m d) h e =
-    let f : fin false 0 (pos 0) ≡ fin true 0 (pos 0) = sym (sine-beyond (fin (not s) m d) h) ∙ e ∙ ap neg (sine-beyond (fin s m d) h) in
+    let f : plusZero ≡ minusZero = sym (sine-beyond (fin (not s) m d) h) ∙ e ∙ ap neg (sine-beyond (fin s m d) h) in
     let z : _≡_ {A = ℕ} 0 1 = cc f in
     omega arith

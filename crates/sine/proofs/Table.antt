@@ -1,5 +1,5 @@
 -- The rules of document 01 over the quarter wave, each proved by one test that antt computes over the whole table:
--- "T[0] = 0, T[1024] = 2^24, it rises, second differences lie from -41 to 2, and T[i]^2 + T[1024-i]^2 is less than 2^25
+-- "T[0] = 0, T[1024] = 2^24, it rises, second differences lie from −41 to 2, and T[i]² + T[1024−i]² is less than 2^25
 -- from 2^48". They are over the natural numbers, so a bound on a difference stands as a bound on sums. Assumes nothing.
 use mathlib.Core.Path.{_≡_, refl, ap, _∙_}
 use mathlib.Core.Bool.{Bool, true, _&&_}

@@ -1,4 +1,4 @@
--- T of document 01: "T holds 1,025 whole numbers, T[i] nearest 2^24 sin(i pi / 2048)". An independent program recomputes the
+-- T of document 01: "T holds 1,025 whole numbers, T[i] nearest 2^24·sin(i·pi/2048)". An independent program recomputes the
 -- numbers; what follows from them alone is proved in `proofs/Table.antt`. Assumes nothing.
 use Prim.Native.Nat.{ℕ}
 use mathlib.Core.List.{List, [], _∷_}

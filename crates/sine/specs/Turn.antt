@@ -4,16 +4,17 @@
 use mathlib.Core.Bool.{Bool, true, false}
 use Prim.Native.Nat.{ℕ, _+_, _-_, _*_, _/_, _%_, _^_}
 use lib.Dec.{leb, eqb}
-use lib.IntN.{ℤ, pos}
+use lib.IntN.{ℤ}
 use lib.ListN.{getD}
 use lib.Ieee.{Float, nan, inf, fin, binary32, up, down, unlike, round}
+use Rattle.ieee.specs.Constants.{plusZero}
 use Rattle.sine.specs.Quarter.{quarter}
 
 -- "the whole number nearest 2^62 / (2 pi)"
 unfoldable pub C : ℕ
 C = 733972625820500307
 
--- "P = floor(|x| C / 2^30) mod 2^32", for |x| = m * 2 ^ e
+-- "P = floor(|x|·C / 2^30) mod 2^32", for |x| = m * 2 ^ e
 unfoldable pub position : ℕ → ℤ → ℕ
 unfolding C
 position m e = m * up e * C / (down e * 2 ^ 30) % 2 ^ 32
@@ -22,12 +23,12 @@ position m e = m * up e * C / (down e * 2 ^ 30) % 2 ^ 32
 unfoldable pub quarterOf : ℕ → ℕ
 quarterOf p = p / 2 ^ 30
 
--- "With u = P mod 2^30, in the second and fourth quarter u becomes 2^30 - u"
+-- "With u = P mod 2^30, in the second and fourth quarter u becomes 2^30 − u"
 unfoldable pub folded : ℕ → ℕ
 unfolding quarterOf
 folded p = elim (eqb (quarterOf p % 2) 1) [ true ↦ 2 ^ 30 - p % 2 ^ 30 | false ↦ p % 2 ^ 30 ]
 
--- "With i = floor(u / 2^20) and r = u mod 2^20, S = T[i] + floor((T[i+1] - T[i]) r / 2^20); at i = 1024, S = T[1024]"
+-- "With i = floor(u / 2^20) and r = u mod 2^20, S = T[i] + floor((T[i+1] − T[i])·r / 2^20); at i = 1024, S = T[1024]"
 unfoldable pub height : ℕ → ℕ
 height u =
     elim (eqb (u / 2 ^ 20) 1024) [
@@ -45,4 +46,4 @@ unfoldable pub turnSine : Float → Float
 unfolding position sineAt
 turnSine nan = nan
 turnSine (inf s) = nan
-turnSine (fin s m e) = elim (leb (2 ^ 31 * down e) (m * up e)) [ true ↦ fin false 0 (pos 0) | false ↦ sineAt s (position m e) ]
+turnSine (fin s m e) = elim (leb (2 ^ 31 * down e) (m * up e)) [ true ↦ plusZero | false ↦ sineAt s (position m e) ]

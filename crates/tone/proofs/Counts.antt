@@ -14,6 +14,7 @@ use lib.Ieee.Positive.{first-pos}
 use lib.Ieee.Exact.{HasValue}
 use lib.Ieee.Back.{round-whole}
 use borrow.Author.Tests.{ltb-true, ltb-false, le-leb, lt-leb, eq-eqb, ne-eqb}
+use Rattle.ieee.specs.Constants.{minusOne, plusZero}
 use Rattle.tone.specs.declared.time.Length.the-variants.{Samples, NotANumber, Negative, TooMany}
 use Rattle.tone.specs.Time.{ceiling, countOf, noteMost}
 
@@ -54,7 +55,7 @@ unfolding countOf
 counted-nan x t = rw (differs-from-itself x (subst T (sym t) tt))
 
 -- `x < 0.0` of what is below zero, and not of -0.0
-pub counted-negative : (x : Float) → lt x (fin false 0 (pos 0)) ≡ true → Negative ≡ countOf x
+pub counted-negative : (x : Float) → lt x plusZero ≡ true → Negative ≡ countOf x
 unfolding countOf lt
 counted-negative nan t = cc
 counted-negative (inf true) t = refl
@@ -83,7 +84,7 @@ Within (fin true m e) = m ≡ 0
 Within (fin false m e) = m * up e ≤ noteMost * down e
 
 -- the three tests fail
-pub within-by-tests : (x : Float) → ne x x ≡ false → lt x (fin false 0 (pos 0)) ≡ false → lt (fin false 1 (pos 24)) x ≡ false → Within x
+pub within-by-tests : (x : Float) → ne x x ≡ false → lt x plusZero ≡ false → lt (fin false 1 (pos 24)) x ≡ false → Within x
 unfolding lt ne
 within-by-tests nan u s t = absurd (true≢false u)
 within-by-tests (inf true) u s t = absurd (true≢false s)
@@ -92,7 +93,7 @@ within-by-tests (fin true m e) u s t = omega (arith, ltb-false, mul-le-mul-left 
 within-by-tests (fin false m e) u s t = omega (arith, ltb-false)
 
 -- they are in the range of the cast that cuts off a fraction
-pub in-range : (x : Float) → Within x → T (lt (fin true 1 (pos 0)) x) × T (lt x (fin false 1 (pos 64)))
+pub in-range : (x : Float) → Within x → T (lt minusOne x) × T (lt x (fin false 1 (pos 64)))
 unfolding lt
 in-range nan h = absurd h
 in-range (inf s) h = absurd h

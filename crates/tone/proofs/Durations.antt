@@ -6,7 +6,7 @@ use Prim.Native.Nat.{ℕ, _*_, _≤_, _<_}
 use native.Mathlib.Nat.{mul-pos}
 use native.Mathlib.Omega.{arith}
 use lib.Dec.{T}
-use lib.IntN.{pos, negsuc}
+use lib.IntN.{pos}
 use lib.Ieee.{Float, nan, inf, fin, binary32, up, down, le, mul, div, ofInt, round, fits}
 use lib.Ieee.Fits.{down-pos, mul-fits}
 use lib.Ieee.Exact.{HasValue}
@@ -14,6 +14,7 @@ use lib.Ieee.Order.{round-mono}
 use lib.Ieee.Scale.{round-same}
 use lib.Ieee.Positive.{positive, between, mul-mono, first-pos}
 use borrow.Author.Tests.{ne-eqb}
+use Rattle.ieee.specs.Constants.{dotFactor, minute}
 use Rattle.tone.specs.Time.{durationOf}
 use Rattle.tone.proofs.Counts.{whole-value}
 
@@ -60,10 +61,6 @@ module _ (lo hi x : Float) (p : T (positive lo)) (q : T (positive hi)) (i : Insi
 abbrev undotted : ℕ → ℕ → ℕ → Float
 undotted tempo denom value = mul binary32 (round binary32 false 60 tempo) (round binary32 false denom value)
 
--- 1.5
-abbrev dot : Float
-dot = fin false 3 (negsuc 0)
-
 module _ (tempo denom value : ℕ) (t : 0 < tempo) (t' : tempo ≤ 1000) (d : 0 < denom) (d' : denom ≤ 128) (v : 0 < value) (v' : value ≤ 128) where
   beat : Inside (round binary32 false 60 1000) (round binary32 false 60 1) (round binary32 false 60 tempo)
   beat = (round-mono binary32 60 1000 60 tempo (omega arith) t (omega arith), round-mono binary32 60 tempo 60 1 t (omega arith) (omega arith))
@@ -79,17 +76,17 @@ module _ (tempo denom value : ℕ) (t : 0 < tempo) (t' : tempo ≤ 1000) (d : 0 
   unfolding mul
   undotted-positive = inside-positive (undotted 1000 1 128) (undotted 1 128 1) (undotted tempo denom value) tt tt undotted-inside
 
-  dotted-positive : T (positive (mul binary32 (undotted tempo denom value) dot))
+  dotted-positive : T (positive (mul binary32 (undotted tempo denom value) dotFactor))
   unfolding mul le
   dotted-positive =
-      inside-positive (mul binary32 (undotted 1000 1 128) dot) (mul binary32 (undotted 1 128 1) dot) (mul binary32 (undotted tempo denom value) dot) tt tt
-      (inside-mul (undotted 1000 1 128) (undotted 1 128 1) (undotted tempo denom value) tt tt undotted-inside dot dot dot tt tt tt (tt, tt))
+      inside-positive (mul binary32 (undotted 1000 1 128) dotFactor) (mul binary32 (undotted 1 128 1) dotFactor) (mul binary32 (undotted tempo denom value) dotFactor) tt tt
+      (inside-mul (undotted 1000 1 128) (undotted 1 128 1) (undotted tempo denom value) tt tt undotted-inside dotFactor dotFactor dotFactor tt tt tt (tt, tt))
 
-  quotients : mul binary32 (div binary32 (fin false 15 (pos 2)) (ofInt binary32 (pos tempo))) (div binary32 (ofInt binary32 (pos denom)) (ofInt binary32 (pos value)))
+  quotients : mul binary32 (div binary32 minute (ofInt binary32 (pos tempo))) (div binary32 (ofInt binary32 (pos denom)) (ofInt binary32 (pos value)))
       ≡ undotted tempo denom value
   quotients =
       rw (
-        ratio (fin false 15 (pos 2)) (ofInt binary32 (pos tempo)) 60 tempo t (refl, refl) (whole-value tempo (omega arith)),
+        ratio minute (ofInt binary32 (pos tempo)) 60 tempo t (refl, refl) (whole-value tempo (omega arith)),
         ratio (ofInt binary32 (pos denom)) (ofInt binary32 (pos value)) denom value v (whole-value denom (omega arith)) (whole-value value (omega arith)),
       )
 

@@ -4,6 +4,7 @@ use mathlib.Core.Path.{_≡_, refl}
 use mathlib.Core.Bool.{true, false}
 use lib.IntN.{pos, negsuc}
 use lib.Ieee.{nan, inf, fin, binary32, round, mul, div, ofInt, toBits}
+use Rattle.ieee.specs.Constants.{concertPitch, minusOne, minusZero}
 use Rattle.tone.specs.declared.time.Length.the-variants.{Samples, NotANumber, Negative, TooMany}
 use Rattle.tone.specs.Power.{step, frequencyOf}
 use Rattle.tone.specs.Time.{durationOf, lengthOf}
@@ -16,7 +17,7 @@ unfolding step round toBits
 step-bits = refl
 
 -- a of octave 4 is 440 Hz
-pub a4 : frequencyOf 57 ≡ fin false 55 (pos 3)
+pub a4 : frequencyOf 57 ≡ concertPitch
 unfolding frequencyOf round mul
 a4 = refl
 
@@ -74,12 +75,12 @@ pub not-a-number : lengthOf 44100 nan ≡ NotANumber
 unfolding lengthOf mul
 not-a-number = refl
 
-pub minus-one : lengthOf 44100 (fin true 1 (pos 0)) ≡ Negative
+pub minus-one : lengthOf 44100 minusOne ≡ Negative
 unfolding lengthOf round mul ofInt
 minus-one = refl
 
 -- -0.0 is not below zero
-pub minus-zero : lengthOf 44100 (fin true 0 (pos 0)) ≡ Samples 0
+pub minus-zero : lengthOf 44100 minusZero ≡ Samples 0
 unfolding lengthOf round mul ofInt
 minus-zero = refl
 

@@ -6,10 +6,10 @@ use Prim.Native.Nat.{ℕ, zero, suc, _-_, _/_, _%_, _^_, _≤_, _<_}
 use native.Mathlib.Omega.{arith}
 use lib.Dec.{T, eqb}
 use borrow.Author.Tests.{le-leb, lt-leb}
-use lib.IntN.{pos}
-use lib.Ieee.{Float, fin, binary32, minus, mul, div, fits}
+use lib.Ieee.{Float, binary32, minus, mul, div, fits}
 use lib.Ieee.Fits.{mul-fits}
-use Rattle.tone.specs.Power.{bits, powerFrom, powerOf, power, one, step, frequencyOf}
+use Rattle.ieee.specs.Constants.{concertPitch, one}
+use Rattle.tone.specs.Power.{bits, powerFrom, powerOf, power, step, frequencyOf}
 
 -- r, times q where a bit is set
 abbrev pub times : Bool → Float → Float → Float
@@ -46,16 +46,16 @@ exponent : (s : ℕ) → s < 57 → suc (57 - suc s) ≡ 57 - s
 exponent s h = omega arith
 
 -- below a of octave 4 the power is divided into 1
-pub frequency-below : (s : ℕ) → s < 57 → mul binary32 (fin false 55 (pos 3)) (div binary32 one (powerOf step (57 - s))) ≡ frequencyOf s
+pub frequency-below : (s : ℕ) → s < 57 → mul binary32 concertPitch (div binary32 one (powerOf step (57 - s))) ≡ frequencyOf s
 unfolding frequencyOf
 frequency-below s h = rw (lt-leb 57 s h, ← exponent s h)
 
 -- from there on it is the power itself
-pub frequency-from : (s : ℕ) → 57 ≤ s → mul binary32 (fin false 55 (pos 3)) (powerOf step (s - 57)) ≡ frequencyOf s
+pub frequency-from : (s : ℕ) → 57 ≤ s → mul binary32 concertPitch (powerOf step (s - 57)) ≡ frequencyOf s
 unfolding frequencyOf
 frequency-from s h = rw (le-leb 57 s h)
 
 -- every frequency is an f32
 pub frequency-fits : (s : ℕ) → T (fits binary32 (frequencyOf s))
 unfolding frequencyOf
-frequency-fits s = mul-fits binary32 (fin false 55 (pos 3)) (power step (minus s 57))
+frequency-fits s = mul-fits binary32 concertPitch (power step (minus s 57))

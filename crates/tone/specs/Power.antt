@@ -1,4 +1,4 @@
--- Frequencies, as document 01 has them: "Frequency = 440 times step to the power s - 57; step is `SEMINOTE_STEP` rounded to f32.
+-- Frequencies, as document 01 has them: "Frequency = 440 times step to the power s − 57; step is `SEMINOTE_STEP` rounded to f32.
 -- Power of |k|: begin with 1; for bits of |k| from the lowest, multiply by the running square where the bit is set, then
 -- square; for negative k, 1 divided by that." Every operation is rounded to f32. Assumes nothing.
 use mathlib.Core.Bool.{Bool, true, false}
@@ -6,7 +6,8 @@ use mathlib.Core.List.{List, [], _∷_}
 use Prim.Native.Nat.{ℕ, zero, suc, _/_, _%_, _^_}
 use lib.Dec.{eqb}
 use lib.IntN.{ℤ, pos, negsuc}
-use lib.Ieee.{Float, fin, binary32, minus, round, mul, div}
+use lib.Ieee.{Float, binary32, minus, round, mul, div}
+use Rattle.ieee.specs.Constants.{concertPitch, one}
 
 -- the lowest j binary digits of n, the lowest first
 unfoldable pub bits : ℕ → ℕ → List Bool
@@ -17,9 +18,6 @@ bits (suc j) n = eqb (n % 2) 1 ∷ bits j (n / 2)
 unfoldable pub powerFrom : Float → Float → List Bool → Float
 powerFrom r q [] = r
 powerFrom r q (b ∷ bs) = powerFrom (elim b [ true ↦ mul binary32 r q | false ↦ r ]) (mul binary32 q q) bs
-
-abbrev pub one : Float
-one = fin false 1 (pos 0)
 
 -- x to the power n: 32 binary digits hold every n that a u32 holds
 unfoldable pub powerOf : Float → ℕ → Float
@@ -39,4 +37,4 @@ step = round binary32 false 10594630943592952645618253 (10 ^ 25)
 -- 440 times step to the power s - 57
 unfoldable pub frequencyOf : ℕ → Float
 unfolding power step
-frequencyOf s = mul binary32 (fin false 55 (pos 3)) (power step (minus s 57))
+frequencyOf s = mul binary32 concertPitch (power step (minus s 57))

@@ -12,8 +12,9 @@ use lib.ListN.{take, drop}
 use lib.Seq.{drop-at}
 use lib.Ieee.{Float, nan, inf, fin, binary32, up, down, mul}
 use borrow.Author.Tests.{le-leb, lt-leb}
+use Rattle.ieee.specs.Constants.{sampleScale}
 use Rattle.wave.specs.Form.{le, header}
-use Rattle.wave.specs.Sample.{scale, clamp, halfUp, whole16, sample16, word, bytesOf, number16, numbersOf}
+use Rattle.wave.specs.Sample.{clamp, halfUp, whole16, sample16, word, bytesOf, number16, numbersOf}
 use Rattle.wave.proofs.Published.{header-length}
 
 -- ---- bytes of any number, the lower first
@@ -63,7 +64,7 @@ whole-range (fin false m e) = omega arith
 -- every sample's number is one
 pub sample-range : (x : Float) → In16 (sample16 x)
 unfolding sample16
-sample-range x = whole-range (mul binary32 (clamp x) scale)
+sample-range x = whole-range (mul binary32 (clamp x) sampleScale)
 
 -- whose two bytes give it back
 pub word-back : (z : ℤ) → In16 z → number16 (word z % 256) (word z / 256 % 256) ≡ z

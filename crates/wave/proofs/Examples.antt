@@ -6,16 +6,17 @@ use mathlib.Core.List.{[], _∷_}
 use Prim.Native.Nat.{ℕ}
 use lib.IntN.{ℤ, pos, negsuc}
 use lib.Ieee.{nan, inf, binary32, mul, lt, ofBits}
+use Rattle.ieee.specs.Constants.{minusOne, one}
 use Rattle.wave.specs.declared.file.Written.the-variants.{Wrote, TooShort}
 use Rattle.wave.specs.Form.{oldSize, header}
-use Rattle.wave.specs.Sample.{one, minusOne, sample16, sampleBytes}
+use Rattle.wave.specs.Sample.{sample16, sampleBytes}
 use Rattle.wave.specs.File.{countIn, samplesIn, fileAnswer, fileIn, refusalOf}
 
 -- the number of the sample whose f32 has the given bits
 abbrev number : ℕ → ℤ
 number bits = sample16 (ofBits binary32 bits)
 
--- "Samples 1.0, -1.0, NaN: 32767, -32768, 0", and the bytes of the first two
+-- "Samples 1.0, −1.0, NaN: 32767, −32768, 0", and the bytes of the first two
 pub full :
     (sample16 one ≡ pos 32767)
     × (sample16 minusOne ≡ negsuc 32767)
@@ -38,7 +39,7 @@ pub halves :
 unfolding sample16 ofBits mul lt
 halves = (refl, refl, refl, refl, refl, refl, refl, refl)
 
--- "clamp to -1..1": infinities and 2.0 are as the ends; 0.99999994 is below the end, and -0.0 and the smallest floats are 0
+-- "clamp to −1..1": infinities and 2.0 are as the ends; 0.99999994 is below the end, and -0.0 and the smallest floats are 0
 pub ends :
     (sample16 (inf false) ≡ pos 32767)
     × (sample16 (inf true) ≡ negsuc 32767)

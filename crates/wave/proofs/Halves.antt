@@ -14,6 +14,7 @@ use lib.Ieee.Exact.{HasValue, round-exact}
 use lib.Ieee.Scale.{round-same}
 use lib.Ieee.Nearest.{div-same}
 use borrow.Author.Tests.{ltb-true, ltb-false}
+use Rattle.ieee.specs.Constants.{minusOne, plusZero}
 use Rattle.ieee.proofs.Nonnegative.{in-units}
 use Rattle.wave.specs.Sample.{halfUp, nearestWhole, AtMostScale}
 
@@ -85,7 +86,7 @@ module _ (n d : ℕ) (p : 0 < d) (h : n < 2 ^ 64 * d) where
   below-top m e v = lt-of-mul-lt-mul-right d (omega (arith, mul-lt-mul-of-pos-right h (down-pos e)))
 
   -- it is in the range of the cast
-  cut-range : (y : Float) → HasValue y false n d → T (lt (fin true 1 (pos 0)) y) × T (lt y (fin false 1 (pos 64)))
+  cut-range : (y : Float) → HasValue y false n d → T (lt minusOne y) × T (lt y (fin false 1 (pos 64)))
   unfolding lt
   cut-range nan v = absurd v
   cut-range (inf s) v = absurd v
@@ -104,7 +105,7 @@ module _ (n d : ℕ) (p : 0 < d) (h : n < 2 ^ 64 * d) where
 
 -- it is in the range of the cast, and half of its whole part, rounded up, is the whole number nearest to p
 pub record Halved (p a : Float) : Type 0 where
-  pub above : T (lt (fin true 1 (pos 0)) (add binary32 a a))
+  pub above : T (lt minusOne (add binary32 a a))
   pub under : T (lt (add binary32 a a) (fin false 1 (pos 64)))
   pub small : toUnsigned 64 (add binary32 a a) ≤ 65535
   pub half : (toUnsigned 64 (add binary32 a a) + 1) / 2 ≡ nearestWhole p
@@ -128,7 +129,7 @@ plain s m e t h =
     record { above = r .0; under = r .1; small = omega arith; half = ap (λ (q : ℕ). (q + 1) / 2) c ∙ half-of-double (m * up e) (down e) p }
 
 -- what equals -0.0 is in the range of the cast, which gives 0
-zero-range : (d : ℕ) (y : Float) → 0 < d → HasValue y true 0 d → T (lt (fin true 1 (pos 0)) y) × T (lt y (fin false 1 (pos 64))) × (toUnsigned 64 y ≡ 0)
+zero-range : (d : ℕ) (y : Float) → 0 < d → HasValue y true 0 d → T (lt minusOne y) × T (lt y (fin false 1 (pos 64))) × (toUnsigned 64 y ≡ 0)
 unfolding lt toUnsigned
 zero-range d nan p v = absurd v
 zero-range d (inf s) p v = absurd v
@@ -154,7 +155,7 @@ minus-zero m e z t =
     }
 
 -- the size is the negation of what is below zero
-pub halved-below : (p : Float) → T (fits binary32 p) → AtMostScale p → lt p (fin false 0 (pos 0)) ≡ true → Halved p (neg p)
+pub halved-below : (p : Float) → T (fits binary32 p) → AtMostScale p → lt p plusZero ≡ true → Halved p (neg p)
 unfolding lt neg
 halved-below nan t h l = absurd h
 halved-below (inf s) t h l = absurd h
@@ -162,7 +163,7 @@ halved-below (fin true m e) t h l = plain true m e (neg-fits binary32 (fin true 
 halved-below (fin false m e) t h l = absurd (omega (arith, ltb-true))
 
 -- and the rest itself
-pub halved-not-below : (p : Float) → T (fits binary32 p) → AtMostScale p → lt p (fin false 0 (pos 0)) ≡ false → Halved p p
+pub halved-not-below : (p : Float) → T (fits binary32 p) → AtMostScale p → lt p plusZero ≡ false → Halved p p
 unfolding lt
 halved-not-below nan t h l = absurd h
 halved-not-below (inf s) t h l = absurd h

@@ -12,9 +12,10 @@ use lib.Ieee.Fits.{down-pos, and-l}
 use lib.Ieee.Compare.{differs-from-itself}
 use lib.Ieee.Order.{round-mono}
 use borrow.Author.Tests.{ltb-true, ltb-false}
+use Rattle.ieee.specs.Constants.{minusOne, one, plusZero, sampleScale}
 use Rattle.ieee.proofs.Nonnegative.{less-or-equal}
 use Rattle.ieee.proofs.Sign.{round-neg}
-use Rattle.wave.specs.Sample.{one, minusOne, scale, clamp, halfUp, nearestWhole, AtMostScale, whole16, word}
+use Rattle.wave.specs.Sample.{clamp, halfUp, nearestWhole, AtMostScale, whole16, word}
 
 -- ---- clamped
 
@@ -65,7 +66,7 @@ neg-at-most (inf s) h = h
 neg-at-most (fin s m e) h = h
 
 -- a float from 0 to 32767.5 is in the range
-at-most : (x : Float) → T (le (fin false 0 (pos 0)) x) → T (le x scale) → AtMostScale x
+at-most : (x : Float) → T (le plusZero x) → T (le x sampleScale) → AtMostScale x
 unfolding le
 at-most nan a b = a
 at-most (inf true) a b = a
@@ -90,7 +91,7 @@ module _ (n d : ℕ) (p : 0 < d) (h : 2 * n ≤ 65535 * d) where
 -- ---- the product
 
 -- it is in the range unless it is NaN
-pub product : (c : Float) → AtMostOne c → ne (mul binary32 c scale) (mul binary32 c scale) ≡ false → AtMostScale (mul binary32 c scale)
+pub product : (c : Float) → AtMostOne c → ne (mul binary32 c sampleScale) (mul binary32 c sampleScale) ≡ false → AtMostScale (mul binary32 c sampleScale)
 unfolding mul ne
 product nan h t = absurd (true≢false t)
 product (inf s) h t = absurd h
@@ -122,7 +123,7 @@ word-below (suc n) h =
     let e : min (suc n) 32768 ≡ suc n = omega arith in
     rw e (omega arith)
 
-pub stored-below : (p : Float) → AtMostScale p → lt p (fin false 0 (pos 0)) ≡ true → (65536 - nearestWhole p) % 65536 ≡ word (whole16 p)
+pub stored-below : (p : Float) → AtMostScale p → lt p plusZero ≡ true → (65536 - nearestWhole p) % 65536 ≡ word (whole16 p)
 unfolding lt whole16 nearestWhole
 stored-below nan h t = absurd h
 stored-below (inf s) h t = absurd h
@@ -130,7 +131,7 @@ stored-below (fin true m e) h t = word-below (halfUp (m * up e) (down e)) (neare
 stored-below (fin false m e) h t = absurd (omega (arith, ltb-true))
 
 -- zero and above, at most 32767
-pub stored-above : (p : Float) → AtMostScale p → lt p (fin false 0 (pos 0)) ≡ false → min (nearestWhole p) 32767 ≡ word (whole16 p)
+pub stored-above : (p : Float) → AtMostScale p → lt p plusZero ≡ false → min (nearestWhole p) 32767 ≡ word (whole16 p)
 unfolding lt whole16 nearestWhole word halfUp
 stored-above nan h t = absurd h
 stored-above (inf s) h t = absurd h

@@ -1,4 +1,4 @@
--- One sample, as document 01 has it: "A sample: clamp to -1..1, times 32767.5 in f32, half away from zero, saturate to 16 bits;
+-- One sample, as document 01 has it: "A sample: clamp to −1..1, times 32767.5 in f32, half away from zero, saturate to 16 bits;
 -- NaN gives 0." The product is an f32; its exact value is then rounded to a whole number. Assumes nothing.
 use mathlib.Core.Bool.{true, false}
 use mathlib.Core.List.{List, [], _∷_, _++_}
@@ -6,21 +6,10 @@ use Prim.Native.Nat.{ℕ, _+_, _-_, _*_, _/_, _≤_, min}
 use lib.Dec.{leb}
 use lib.IntN.{ℤ, pos, negsuc, negℤ}
 use lib.Ieee.{Float, nan, inf, fin, binary32, up, down, mul, lt}
+use Rattle.ieee.specs.Constants.{minusOne, one, sampleScale}
 use Rattle.wave.specs.Form.{le}
 
--- 1.0
-abbrev pub one : Float
-one = fin false 1 (pos 0)
-
--- -1.0
-abbrev pub minusOne : Float
-minusOne = fin true 1 (pos 0)
-
--- 32767.5
-abbrev pub scale : Float
-scale = fin false 65535 (negsuc 0)
-
--- "clamp to -1..1": what is neither below nor above stays, so NaN stays NaN
+-- "clamp to −1..1": what is neither below nor above stays, so NaN stays NaN
 unfoldable pub clamp : Float → Float
 clamp x = elim (lt x minusOne) [ true ↦ minusOne | false ↦ elim (lt one x) [ true ↦ one | false ↦ x ] ]
 
@@ -40,7 +29,7 @@ whole16 (fin false m e) = pos (min (halfUp (m * up e) (down e)) 32767)
 -- the 16-bit number of a sample
 unfoldable pub sample16 : Float → ℤ
 unfolding clamp whole16
-sample16 x = whole16 (mul binary32 (clamp x) scale)
+sample16 x = whole16 (mul binary32 (clamp x) sampleScale)
 
 -- a 16-bit number as it is stored: below zero, counted down from 2^16
 unfoldable pub word : ℤ → ℕ

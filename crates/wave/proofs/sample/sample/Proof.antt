@@ -5,14 +5,15 @@ use Prim.Native.Nat.{_≤_, min}
 use native.Mathlib.Omega.{arith}
 use borrow.Author.Needs.{needs}
 use lib.Ieee.{Float, binary32, mul, ofBits}
-use Rattle.wave.specs.Sample.{scale, AtMostScale, whole16, sample16, word}
+use Rattle.ieee.specs.Constants.{sampleScale}
+use Rattle.wave.specs.Sample.{AtMostScale, whole16, sample16, word}
 use Rattle.wave.proofs.Scaled.{clamp-small, product, whole-small, stored-nan, stored-below, stored-above}
 use Rattle.wave.proofs.sample.sample.Statement.{statement}
 use Rattle.wave.proofs.sample.sample.Tie as tie
 
 -- the product that the tests speak of
 abbrev scaled : tie.After-clamped → Float
-scaled c = mul binary32 (c .clamped .result) scale
+scaled c = mul binary32 (c .clamped .result) sampleScale
 
 stored : (c : tie.After-clamped) → word (whole16 (scaled c)) ≡ word (sample16 (c .before .args .x))
 unfolding sample16

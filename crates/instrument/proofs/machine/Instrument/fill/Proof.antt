@@ -9,8 +9,8 @@ use lib.Dec.{le→leb}
 use lib.IntN.{pos}
 use lib.ListN.{length, length-map}
 use lib.Ieee.{ofBits, binary32, div, ofInt, inFloat}
+use Rattle.ieee.specs.Constants.{one}
 use Rattle.sine.specs.Quarter.{quarter}
-use Rattle.instrument.specs.Evaluation.{one}
 use Rattle.instrument.specs.Fill.{countFrom, filled, soundFrom}
 use Rattle.instrument.proofs.Filling.{Front, front-none, front-length, front-next, sound-is}
 use Rattle.instrument.proofs.Running.{Running, running-start, running-more, running-end}
