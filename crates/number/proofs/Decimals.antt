@@ -14,9 +14,11 @@ use lib.Pow.{pow-add}
 use lib.Ieee.{Float, binary32, round}
 use borrow.Author.Tests.{le-leb, lt-leb, eq-eqb, ne-eqb}
 use Rattle.number.specs.declared.decimal.Decimal.the-variants.{Value, Unreadable, TooLong}
-use Rattle.number.specs.Digits.{front, after, isDigit, valueFrom}
+use Rattle.text.specs.Fronts.{front, after}
+use Rattle.number.specs.Digits.{isDigit, valueFrom}
 use Rattle.number.specs.Decimal.{nearestTo, judged, pointed, ended, begun, decimalAt}
-use Rattle.number.proofs.Runs.{value-below, value-append, after-is}
+use Rattle.text.proofs.Fronts.{after-is}
+use Rattle.number.proofs.Runs.{value-below, value-append}
 
 -- over 18 digits
 pub judged-long : (ds es : List ℕ) (next : ℕ) → 18 < length ds + length es → TooLong ≡ judged ds es next
@@ -79,7 +81,7 @@ ended-end : (i : ℕ) (ds : List ℕ) → ended i ds [] ≡ judged ds [] (i + le
 unfolding ended
 ended-end i ds = refl
 
-ended-other : (i : ℕ) (ds : List ℕ) (b : ℕ) (rest : List ℕ) → (b ≡ 46 → ⊥) → ended i ds (b ∷ rest) ≡ judged ds [] (i + length ds)
+pub ended-other : (i : ℕ) (ds : List ℕ) (b : ℕ) (rest : List ℕ) → (b ≡ 46 → ⊥) → ended i ds (b ∷ rest) ≡ judged ds [] (i + length ds)
 unfolding ended
 ended-other i ds b rest h = rw (ne-eqb b 46 h, ended)
 

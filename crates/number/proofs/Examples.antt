@@ -7,7 +7,7 @@ use lib.Ieee.{binary32, round, ofBits}
 use Rattle.number.specs.declared.decimal.Decimal.{Decimal}
 use Rattle.number.specs.declared.decimal.Decimal.the-variants.{Value, Unreadable, TooLong}
 use Rattle.number.specs.declared.digits.Int.the-variants.{Number, Absent}
-use Rattle.number.specs.Text.{bytes}
+use Rattle.text.specs.Quoted.{bytes}
 use Rattle.number.specs.Digits.{intAt}
 use Rattle.number.specs.Decimal.{decimalAt}
 

@@ -1,57 +1,20 @@
--- Laws of fronts and digit runs: how the front at a place of a text starts, and what one more digit adds to a value.
+-- Laws of digit runs: what one more digit adds to a value, and when a run is a number.
 -- Code that walks a text by index cites these, and never the definitions' text. Assumes nothing.
 use mathlib.Core.Path.{_≡_, refl, sym, ap, subst, _∙_}
 use mathlib.Core.Bool.{Bool, true, false}
 use mathlib.Core.List.{List, [], _∷_, _++_}
-use Prim.Native.Nat.{ℕ, suc, _+_, _-_, _*_, _^_, _≤_, _<_, zero-le, suc-le-suc}
-use native.Mathlib.Numerals.{add-one}
+use Prim.Native.Nat.{ℕ, suc, _+_, _-_, _*_, _^_, _≤_, _<_, zero-le}
 use native.Mathlib.Nat.{le-refl, le-trans, le-of-eq, lt-of-lt-of-le, mul-assoc, mul-le-mul-right, le-mul-of-pos-right, one-le-pow, pow-succ'}
 use native.Mathlib.Omega.{arith}
 use lib.Dec.{T, leb, leb→le}
-use lib.ListN.{length, drop, getD, drop-of-length-le}
-use lib.Seq.{drop-cons, drop-drop}
+use lib.ListN.{length, drop, getD}
 use lib.Ieee.Fits.{and-r}
 use borrow.Author.Tests.{le-leb, lt-leb}
 use Rattle.number.specs.declared.digits.Int.{Int}
 use Rattle.number.specs.declared.digits.Int.the-variants.{Number, Absent}
-use Rattle.number.specs.Digits.{front, after, isDigit, valueFrom, intOf, intAt}
-
-cons-true : (p : ℕ → Bool) (b : ℕ) (s : List ℕ) → p b ≡ true → front p (b ∷ s) ≡ b ∷ front p s
-unfolding front
-cons-true p b s e = rw (e, front)
-
-cons-false : (p : ℕ → Bool) (b : ℕ) (s : List ℕ) → p b ≡ false → front p (b ∷ s) ≡ []
-unfolding front
-cons-false p b s e = rw (e, front)
-
--- past the text's end there is no front
-pub front-end : (p : ℕ → Bool) (s : List ℕ) (at : ℕ) → length s ≤ at → front p (drop at s) ≡ []
-unfolding front
-front-end p s at h = rw (drop-of-length-le s h)
-
--- the front ends before a byte that fails the test
-pub front-stop : (p : ℕ → Bool) (s : List ℕ) (at : ℕ) → at < length s → p (getD s at 0) ≡ false → front p (drop at s) ≡ []
-front-stop p s at h e = rw (drop-cons s at 0 h) (cons-false p (getD s at 0) (drop (suc at) s) e)
-
--- a byte that passes stands first, and the front of what follows after it
-pub front-more : (p : ℕ → Bool) (s : List ℕ) (at : ℕ) → at < length s → p (getD s at 0) ≡ true
-    → front p (drop at s) ≡ getD s at 0 ∷ front p (drop (at + 1) s)
-front-more p s at h e = rw (add-one, drop-cons s at 0 h) (cons-true p (getD s at 0) (drop (suc at) s) e)
-
--- a front that goes on ends where the rest of it ends
-pub length-more : (p : ℕ → Bool) (s : List ℕ) (at : ℕ) → at < length s → p (getD s at 0) ≡ true
-    → length (front p (drop at s)) ≡ suc (length (front p (drop (at + 1) s)))
-length-more p s at h e = ap length (front-more p s at h e)
-
-within-cons : (p : ℕ → Bool) (b : ℕ) (s : List ℕ) → length (front p s) ≤ length s → (t : Bool) → p b ≡ t → length (front p (b ∷ s)) ≤ suc (length s)
-within-cons p b s h true e = rw (cons-true p b s e) (suc-le-suc h)
-within-cons p b s h false e = rw (cons-false p b s e) zero-le
-
--- and it lies within the text
-pub front-within : (p : ℕ → Bool) (s : List ℕ) → length (front p s) ≤ length s
-unfolding front
-front-within p [] = zero-le
-front-within p (b ∷ s) = within-cons p b s (front-within p s) (p b) refl
+use Rattle.text.specs.Fronts.{front}
+use Rattle.text.proofs.Fronts.{cons-true, cons-false, front-more, length-more}
+use Rattle.number.specs.Digits.{isDigit, valueFrom, intOf, intAt}
 
 -- more digits never make a value smaller
 pub value-grows : (v : ℕ) (ds : List ℕ) → v ≤ valueFrom v ds
@@ -103,23 +66,6 @@ pub value-append : (v : ℕ) (ds es : List ℕ) → valueFrom v (ds ++ es) ≡ v
 unfolding valueFrom
 value-append v [] es = refl
 value-append v (d ∷ ds) es = value-append (v * 10 + (d - 48)) ds es
-
--- ---- what follows a front
-
-after-cons : (p : ℕ → Bool) (b : ℕ) (s : List ℕ) → after p s ≡ drop (length (front p s)) s → (t : Bool) → p b ≡ t
-    → after p (b ∷ s) ≡ drop (length (front p (b ∷ s))) (b ∷ s)
-unfolding front after
-after-cons p b s ih true e = rw (e, front, after) ih
-after-cons p b s ih false e = rw (e, front, after)
-
-after-drop : (p : ℕ → Bool) (s : List ℕ) → after p s ≡ drop (length (front p s)) s
-unfolding after front
-after-drop p [] = refl
-after-drop p (b ∷ s) = after-cons p b s (after-drop p s) (p b) refl
-
--- it stands where the front ends
-pub after-is : (p : ℕ → Bool) (s : List ℕ) (i : ℕ) → after p (drop i s) ≡ drop (i + length (front p (drop i s))) s
-after-is p s i = after-drop p (drop i s) ∙ drop-drop (length (front p (drop i s))) i s
 
 -- ---- reading a number digit by digit
 

@@ -9,7 +9,8 @@ use lib.ListN.{length, drop}
 use lib.Ieee.{Float, binary32, round}
 use Rattle.number.specs.declared.decimal.Decimal.{Decimal}
 use Rattle.number.specs.declared.decimal.Decimal.the-variants.{Value, Unreadable, TooLong}
-use Rattle.number.specs.Digits.{front, after, isDigit, valueFrom}
+use Rattle.text.specs.Fronts.{front, after}
+use Rattle.number.specs.Digits.{isDigit, valueFrom}
 
 -- the f32 nearest to N / 10^k, ties to even: N is what the digits of both sides make, k how many stand after the point
 unfoldable pub nearestTo : List ℕ → List ℕ → Float

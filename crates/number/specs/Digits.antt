@@ -7,18 +7,9 @@ use mathlib.Core.List.{List, [], _∷_}
 use Prim.Native.Nat.{ℕ, _+_, _-_, _*_}
 use lib.Dec.{leb}
 use lib.ListN.{length, drop}
+use Rattle.text.specs.Fronts.{front}
 use Rattle.number.specs.declared.digits.Int.{Int}
 use Rattle.number.specs.declared.digits.Int.the-variants.{Number, Absent}
-
--- the longest front of a text whose bytes all pass the test p
-unfoldable pub front : (ℕ → Bool) → List ℕ → List ℕ
-front p [] = []
-front p (b ∷ s) = elim (p b) [ true ↦ b ∷ front p s | false ↦ [] ]
-
--- what follows that front
-unfoldable pub after : (ℕ → Bool) → List ℕ → List ℕ
-after p [] = []
-after p (b ∷ s) = elim (p b) [ true ↦ after p s | false ↦ b ∷ s ]
 
 -- a digit is one of the bytes from `0` to `9`
 unfoldable pub isDigit : ℕ → Bool

@@ -4,7 +4,8 @@
 ghost use mathlib.Core.Path.{_≡_};
 ghost use Prim.Native.Nat.{_+_, _-_};
 ghost use lib.ListN.{length, drop};
-ghost use Rattle.number.specs.Digits.{isDigit, front, intAt};
+ghost use Rattle.text.specs.Fronts.{front};
+ghost use Rattle.number.specs.Digits.{isDigit, intAt};
 
 // What a place of a text holds: a number with the place after its last digit, or none.
 pub enum Int {

@@ -8,7 +8,7 @@ use mathlib.Core.List.{List, [], _∷_, _++_}
 use Prim.Native.Nat.{ℕ, zero, suc, _+_, _*_, _/_, _%_}
 use lib.Dec.{eqb}
 use lib.ListN.{length}
-use Rattle.number.specs.Text.{bytes}
+use Rattle.text.specs.Quoted.{bytes}
 
 -- the number v as n bytes, the lower first
 unfoldable pub le : ℕ → ℕ → List ℕ

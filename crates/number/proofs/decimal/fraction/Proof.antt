@@ -5,7 +5,8 @@ use Prim.Native.Nat.{_+_}
 use native.Mathlib.Omega.{arith}
 use borrow.Author.Needs.{needs}
 use lib.ListN.{drop}
-use Rattle.number.specs.Digits.{front, isDigit}
+use Rattle.text.specs.Fronts.{front}
+use Rattle.number.specs.Digits.{isDigit}
 use Rattle.number.proofs.Decimals.{pointed-none, pointed-some}
 use Rattle.number.proofs.decimal.fraction.Statement.{statement}
 use Rattle.number.proofs.decimal.fraction.Tie as tie

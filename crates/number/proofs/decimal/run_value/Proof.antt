@@ -6,7 +6,8 @@ use native.Mathlib.Omega.{arith}
 use borrow.Author.Needs.{needs}
 use lib.ListN.{length}
 use Rattle.number.specs.Digits.{isDigit}
-use Rattle.number.proofs.Runs.{Summing, summing-room, summing-more, summing-stopped, front-end, front-stop}
+use Rattle.text.proofs.Fronts.{front-end, front-stop}
+use Rattle.number.proofs.Runs.{Summing, summing-room, summing-more, summing-stopped}
 use Rattle.number.proofs.decimal.run_value.Statement.{statement}
 use Rattle.number.proofs.decimal.run_value.Tie as tie
 

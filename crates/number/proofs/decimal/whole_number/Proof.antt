@@ -8,7 +8,8 @@ use native.Mathlib.Omega.{arith}
 use borrow.Author.Needs.{needs}
 use lib.ListN.{length, drop}
 use lib.Ieee.{binary32, round}
-use Rattle.number.specs.Digits.{front, isDigit}
+use Rattle.text.specs.Fronts.{front}
+use Rattle.number.specs.Digits.{isDigit}
 use Rattle.number.proofs.Decimals.{judged-long, judged-whole, room-first, value-room}
 use Rattle.number.proofs.decimal.whole_number.Statement.{statement}
 use Rattle.number.proofs.decimal.whole_number.Tie as tie

@@ -8,7 +8,8 @@ use native.Mathlib.Omega.{arith}
 use borrow.Author.Needs.{needs}
 use lib.ListN.{length, drop}
 use lib.Ieee.{binary32, round}
-use Rattle.number.specs.Digits.{front, isDigit, valueFrom}
+use Rattle.text.specs.Fronts.{front}
+use Rattle.number.specs.Digits.{isDigit, valueFrom}
 use Rattle.number.proofs.Decimals.{judged-long, judged-value, room-first, room-second, value-room}
 use Rattle.number.proofs.decimal.with_part.Statement.{statement}
 use Rattle.number.proofs.decimal.with_part.Tie as tie

@@ -7,7 +7,8 @@ use native.Mathlib.Omega.{arith}
 use borrow.Author.Needs.{needs}
 use lib.ListN.{length, getD}
 use Rattle.number.specs.Digits.{isDigit}
-use Rattle.number.proofs.Runs.{Reading, reading-none, reading-more, reading-over, reading-stopped, front-end, front-stop}
+use Rattle.text.proofs.Fronts.{front-end, front-stop}
+use Rattle.number.proofs.Runs.{Reading, reading-none, reading-more, reading-over, reading-stopped}
 use Rattle.number.proofs.digits.eat_int.Statement.{statement}
 use Rattle.number.proofs.digits.eat_int.Tie as tie
 

@@ -1,23 +1,22 @@
--- `run_end` walks the run byte by byte: what is left of it from `at` on, added to `at`, stays the same place.
--- Assumes nothing.
-use mathlib.Core.Path.{_≡_, refl, sym, ap, _∙_}
-use Prim.Native.Nat.{_+_, _-_}
+-- `run_end` keeps a `Walk` over the digits. Assumes nothing.
+use mathlib.Core.Path.{sym, _∙_}
+use Prim.Native.Nat.{_-_}
 use native.Mathlib.Omega.{arith}
 use borrow.Author.Needs.{needs}
-use lib.ListN.{length, drop}
-use Rattle.number.specs.Digits.{front, isDigit}
-use Rattle.number.proofs.Runs.{front-end, front-stop, length-more}
+use lib.ListN.{length}
+use Rattle.text.proofs.Walks.{Walk, walk-start, walk-more, walk-stop, walk-end}
+use Rattle.number.specs.Digits.{isDigit}
 use Rattle.number.proofs.digits.run_end.Statement.{statement}
 use Rattle.number.proofs.digits.run_end.Tie as tie
 
 abbrev Inv-loop : tie.InvT-loop
-Inv-loop s i at₀ at = at + length (front isDigit (drop at s)) ≡ i + length (front isDigit (drop i s))
+Inv-loop s i at₀ at = Walk isDigit s i at
 
 abbrev μ-loop : tie.MeasureT-loop
 μ-loop s i at₀ at = length s - at
 
 loop-holds : tie.Need-loop-holds Inv-loop μ-loop
-loop-holds c = refl
+loop-holds c = walk-start _ _ _
 
 shared-slice-read-b : tie.Need-shared-slice-read-b Inv-loop μ-loop
 shared-slice-read-b c = search needs
@@ -33,16 +32,14 @@ loop-less c = omega arith
 
 loop-again : tie.Need-loop-again Inv-loop μ-loop
 loop-again c =
-    let l = c .before .before .before .before in
-    omega (arith, length-more isDigit (l .before .before .args .s .now) (l .loop .at) (c .before .before .before .loop-test .taken) (sym (c .before .is-digit .ensures) ∙ c .if1 .taken))
+    walk-more _ _ _ _ (c .before .before .before .before .loop .inv) (c .before .before .before .loop-test .taken) (sym (c .before .is-digit .ensures) ∙ c .if1 .taken)
 
 returns : tie.Need-returns Inv-loop μ-loop
 returns c =
-    let l = c .before .before .before .before in
-    omega (arith, ap length (front-stop isDigit (l .before .before .args .s .now) (l .loop .at) (c .before .before .before .loop-test .taken) (sym (c .before .is-digit .ensures) ∙ c .if1 .left)))
+    walk-stop _ _ _ _ (c .before .before .before .before .loop .inv) (c .before .before .before .loop-test .taken) (sym (c .before .is-digit .ensures) ∙ c .if1 .left)
 
 returns-2 : tie.Need-returns-2 Inv-loop μ-loop
-returns-2 c = omega (arith, ap length (front-end isDigit (c .before .before .before .args .s .now) (c .before .loop .at) (c .loop-test .left)))
+returns-2 c = walk-end _ _ _ _ (c .before .loop .inv) (c .loop-test .left)
 
 pub run-end-spec : {M : Type 1} → statement M
 run-end-spec =

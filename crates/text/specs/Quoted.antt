@@ -1,4 +1,4 @@
--- Texts for examples: a quoted text as the list of its bytes, so that a worked example reads as a dealer writes it.
+-- Quoted texts, for names and worked examples: a text as the list of its bytes, so that an example reads as a dealer writes it.
 -- Assumes nothing.
 use mathlib.Core.List.{List}
 use mathlib.Core.List
