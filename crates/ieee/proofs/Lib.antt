@@ -1,3 +1,4 @@
 pub mod Constants
 pub mod Nonnegative
 pub mod Sign
+pub mod Times

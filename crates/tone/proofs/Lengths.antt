@@ -1,9 +1,9 @@
--- Laws of lengths that callers rely on. A number of samples is within the limit; a time that is not negative has one or is too long; a shorter time
+-- Laws of lengths that callers rely on. A number of samples is within the limit; a time, -0.0 too, has one or is too long; a shorter time
 -- has no more samples than a longer one, so a note that is not too long with its release is not too long without. Assumes nothing.
-use mathlib.Core.Path.{_≡_, refl}
+use mathlib.Core.Path.{_≡_, refl, sym, ap, _∙_}
 use mathlib.Core.Logic.{_⊎_, inl, inr}
 use mathlib.Core.Bool.{Bool, true, false}
-use Prim.Native.Nat.{ℕ, _*_, _≤_, _<_}
+use Prim.Native.Nat.{ℕ, zero, suc, _*_, _≤_, _<_}
 use native.Mathlib.Omega.{arith}
 use lib.Dec.{T, leb, eqb, ltb→lt}
 use lib.IntN.{ℤ, pos}
@@ -14,8 +14,9 @@ use borrow.Author.Tests.{leb-true}
 use Rattle.tone.specs.declared.time.Length.{Length}
 use Rattle.tone.specs.declared.time.Length.the-variants.{Samples, Negative, TooMany}
 use Rattle.tone.specs.Time.{ceiling, countOf, lengthOf, noteMost}
-use Rattle.tone.proofs.Counts.{ceiling-grows, counted, whole-value}
+use Rattle.tone.proofs.Counts.{ceiling-le, ceiling-grows, counted, whole-value}
 use Rattle.ieee.proofs.Nonnegative.{nonnegative, le-fractions, times-nonnegative, times-grows, add-nonnegative, add-grows}
+use Rattle.ieee.proofs.Times.{isTime, cleared, cleared-nonnegative, cleared-fits, times-cleared, add-cleared, times-time, add-time, le-cleared}
 
 -- ---- what a number of samples says
 
@@ -45,7 +46,7 @@ pub length-most : (rate : ℕ) (x : Float) (n : ℕ) → lengthOf rate x ≡ Sam
 unfolding lengthOf
 length-most rate x n h = count-most (mul binary32 x (ofInt binary32 (pos rate))) n h
 
--- ---- times that are not negative
+-- ---- times: neither a NaN nor below zero, -0.0 with them
 
 one-of : (k : ℕ) (b : Bool) (l : Length) → l ≡ (elim b as (λ x. Length) [ true ↦ Samples k | false ↦ TooMany ]) → (l ≡ TooMany) ⊎ ((n : ℕ) × (l ≡ Samples n))
 one-of k true l h = inr (k, h)
@@ -77,6 +78,20 @@ count-grows (fin false m e) (fin false n d) b h i l s =
     let k = samples-is n b d s in
     (ceiling (m * up e) (down e), counted m e (omega arith), omega arith)
 
+no-samples : (e : ℤ) → countOf (fin false 0 e) ≡ Samples 0
+no-samples e =
+    let z : ceiling (0 * up e) (down e) ≤ 0 = ceiling-le (0 * up e) (down e) 0 (down-pos e) (omega arith) in
+    counted 0 e (omega arith) ∙ ap Samples (let q : ceiling (0 * up e) (down e) ≡ 0 = omega arith in q)
+
+count-cleared : (x : Float) → T (isTime x) → countOf x ≡ countOf (cleared x)
+unfolding countOf
+count-cleared nan h = refl
+count-cleared (inf true) h = absurd h
+count-cleared (inf false) h = refl
+count-cleared (fin true zero e) h = sym (no-samples e)
+count-cleared (fin true (suc m) e) h = absurd h
+count-cleared (fin false m e) h = refl
+
 form : (r : Float) → T (positive r) → (p : ℕ) × (g : ℤ) × (0 < p) × (r ≡ fin false p g)
 form nan h = absurd h
 form (inf s) h = absurd h
@@ -91,21 +106,40 @@ module _ (rate : ℕ) (r : 0 < rate) (r' : rate ≤ noteMost) where
   product-nonnegative : (x : Float) → T (nonnegative x) → T (nonnegative (mul binary32 x (ofInt binary32 (pos rate))))
   product-nonnegative x h = rw (rate-is .3) (times-nonnegative binary32 _ _ (rate-is .2) x h)
 
-  -- a time that is not negative has a number of samples, or is too long
-  pub length-answers : (x : Float) → T (nonnegative x) → (lengthOf rate x ≡ TooMany) ⊎ ((n : ℕ) × (lengthOf rate x ≡ Samples n))
+  -- the sign of a zero makes no difference
+  length-cleared : (x : Float) → T (isTime x) → lengthOf rate x ≡ lengthOf rate (cleared x)
   unfolding lengthOf
-  length-answers x h = count-answers (mul binary32 x (ofInt binary32 (pos rate))) (product-nonnegative x h)
+  length-cleared x h =
+      let p = rate-is .0 in
+      let g = rate-is .1 in
+      rw (rate-is .3) (count-cleared (mul binary32 x (fin false p g)) (times-time p g (rate-is .2) x h) ∙ ap countOf (times-cleared p g x h))
 
-  -- of two such times the shorter has no more samples
-  pub length-grows : (x y : Float) (n : ℕ) → T (nonnegative x) → T (nonnegative y) → T (le x y) → lengthOf rate y ≡ Samples n
-      → (m : ℕ) × (lengthOf rate x ≡ Samples m) × (m ≤ n)
+  -- a time has a number of samples, or is too long
+  pub length-answers : (x : Float) → T (isTime x) → (lengthOf rate x ≡ TooMany) ⊎ ((n : ℕ) × (lengthOf rate x ≡ Samples n))
   unfolding lengthOf
-  length-grows x y n h i l s =
+  length-answers x h = rw (length-cleared x h) (count-answers (mul binary32 (cleared x) (ofInt binary32 (pos rate))) (product-nonnegative (cleared x) (cleared-nonnegative x h)))
+
+  grows : (x y : Float) (n : ℕ) → T (nonnegative x) → T (nonnegative y) → T (le x y) → lengthOf rate y ≡ Samples n → (m : ℕ) × (lengthOf rate x ≡ Samples m) × (m ≤ n)
+  unfolding lengthOf
+  grows x y n h i l s =
       count-grows (mul binary32 x (ofInt binary32 (pos rate))) (mul binary32 y (ofInt binary32 (pos rate))) n (product-nonnegative x h) (product-nonnegative y i)
       (rw (rate-is .3) (times-grows binary32 _ _ (rate-is .2) x y h i l)) s
 
+  -- of two times the shorter has no more samples
+  pub length-grows : (x y : Float) (n : ℕ) → T (isTime x) → T (isTime y) → T (le x y) → lengthOf rate y ≡ Samples n
+      → (m : ℕ) × (lengthOf rate x ≡ Samples m) × (m ≤ n)
+  length-grows x y n h i l s =
+      let g = grows (cleared x) (cleared y) n (cleared-nonnegative x h) (cleared-nonnegative y i) (le-cleared x y h i l) (sym (length-cleared y i) ∙ s) in
+      (g .0, length-cleared x h ∙ g .1, g .2)
+
   -- so a note has no more samples without its release than with it
-  pub length-with-release : (duration release : Float) (n : ℕ) → T (fits binary32 duration) → T (nonnegative duration) → T (nonnegative release)
+  pub length-with-release : (duration release : Float) (n : ℕ) → T (fits binary32 duration) → T (isTime duration) → T (isTime release)
       → lengthOf rate (add binary32 duration release) ≡ Samples n → (m : ℕ) × (lengthOf rate duration ≡ Samples m) × (m ≤ n)
   length-with-release duration release n t h i s =
-      length-grows duration (add binary32 duration release) n h (add-nonnegative binary32 duration release h i) (add-grows binary32 duration release t h i) s
+      let d = cleared duration in
+      let r = cleared release in
+      let k = cleared-nonnegative duration h in
+      let l = cleared-nonnegative release i in
+      let e = length-cleared (add binary32 duration release) (add-time duration release h i) ∙ ap (lengthOf rate) (add-cleared duration release h i) in
+      let g = grows d (add binary32 d r) n k (add-nonnegative binary32 d r k l) (add-grows binary32 d r (cleared-fits duration t) k l) (sym e ∙ s) in
+      (g .0, length-cleared duration h ∙ g .1, g .2)

@@ -4,9 +4,6 @@
 ghost use mathlib.Core.Path.{_≡_};
 ghost use Rattle.tone.specs.Time.{durationOf, countOf, lengthOf};
 
-// The most samples that one note may have with its release.
-pub const NOTE_MOST: u64 = 16777216;
-
 // How many samples a time takes: their number, or why there is none.
 pub enum Length {
     Samples(u64),
