@@ -4,25 +4,23 @@ use mathlib.Core.List.{List}
 use Prim.Native.Nat.{ℕ}
 use lib.Dec.{eqb}
 use lib.Ieee.{Float}
-use Rattle.wave.specs.declared.file.Written.{Written}
-use Rattle.wave.specs.declared.file.Written.the-variants.{Wrote, TooShort}
-use Rattle.wave.specs.File.{countIn, samplesIn, headerAnswer, headerIn, fileAnswer, fileIn, refusalOf}
+use Rattle.wave.specs.File.{countIn, samplesIn, Told, headerTold, headerIn, fileTold, fileIn}
 use Rattle.ask_wave.specs.declared.request.Request.{Request}
 use Rattle.ask_wave.specs.declared.answer.Answer.{Answer}
 
-abbrev pub writtenAnswer : Written → Answer
-writtenAnswer (Wrote n) = record { refusal = refusalOf (Wrote n); count = n }
-writtenAnswer TooShort = record { refusal = refusalOf TooShort; count = 0 }
+-- what is printed of what a writer told
+abbrev pub printed : Told → Answer
+printed t = record { refusal = t .number; count = t .count }
 
 -- so many samples, in a buffer of so many bytes
 unfoldable pub answerTo : Request → ℕ → ℕ → Answer
 answerTo r samples room =
     elim (eqb (r .kind) 0) [
-      | true ↦ writtenAnswer (fileAnswer samples room)
+      | true ↦ printed (fileTold samples room)
       | false ↦
           elim (eqb (r .kind) 1) [
             | true ↦ record { refusal = 0; count = countIn room (r .place) samples }
-            | false ↦ writtenAnswer (headerAnswer room)
+            | false ↦ printed (headerTold room)
           ]
     ]
 

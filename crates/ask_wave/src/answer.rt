@@ -2,7 +2,8 @@
 
 ghost use mathlib.Core.Path.{_≡_};
 ghost use lib.ListN.{length};
-ghost use Rattle.ask_wave.specs.Answer.{writtenAnswer, answerTo, bufferTo};
+ghost use Rattle.ask_wave.specs.Answer.{printed, answerTo, bufferTo};
+ghost use Rattle.wave.specs.File.{told};
 use crate::request::Request;
 use wave::file::Written;
 use wave::file::write_file;
@@ -16,7 +17,7 @@ pub struct Answer {
 }
 
 fn of_written(w: Written) -> Answer
-    ensures { λ r. ⌜ r ≡ writtenAnswer w ⌝ }
+    ensures { λ r. ⌜ r ≡ printed (told w) ⌝ }
 {
     match w {
         Written::Wrote(n) => Answer {

@@ -7,10 +7,9 @@ use Prim.Native.Nat.{ℕ}
 use lib.IntN.{ℤ, pos, negsuc}
 use lib.Ieee.{nan, inf, binary32, mul, lt, ofBits}
 use Rattle.ieee.specs.Constants.{minusOne, one}
-use Rattle.wave.specs.declared.file.Written.the-variants.{Wrote, TooShort}
 use Rattle.wave.specs.Form.{oldSize, header}
 use Rattle.wave.specs.Sample.{sample16, sampleBytes}
-use Rattle.wave.specs.File.{countIn, samplesIn, fileAnswer, fileIn, refusalOf}
+use Rattle.wave.specs.File.{countIn, samplesIn, written, refused, fileTold, fileIn}
 
 -- the number of the sample whose f32 has the given bits
 abbrev number : ℕ → ℤ
@@ -74,11 +73,10 @@ windows = (refl, refl, refl, refl)
 
 -- "The file of given f32 samples fills the buffer's first 44 + 2n bytes (30)", and over 2,000,000,000 samples are refused in any buffer
 pub files :
-    (fileAnswer 3 50 ≡ Wrote 50)
-    × (fileAnswer 3 49 ≡ TooShort)
-    × (fileAnswer 2000000000 4000000044 ≡ Wrote 4000000044)
-    × (fileAnswer 2000000001 9000000000 ≡ TooShort)
-    × (refusalOf TooShort ≡ 30)
+    (fileTold 3 50 ≡ written 50)
+    × (fileTold 3 49 ≡ refused 30)
+    × (fileTold 2000000000 4000000044 ≡ written 4000000044)
+    × (fileTold 2000000001 9000000000 ≡ refused 30)
     × (fileIn 44100 (one ∷ []) (9 ∷ 9 ∷ []) ≡ 9 ∷ 9 ∷ [])
-unfolding fileAnswer fileIn refusalOf
-files = (refl, refl, refl, refl, refl, refl)
+unfolding fileTold fileIn
+files = (refl, refl, refl, refl, refl)

@@ -3,4 +3,5 @@ pub mod Examples
 pub mod Halves
 pub mod Published
 pub mod Scaled
+pub mod Told
 pub mod Writes

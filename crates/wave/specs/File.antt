@@ -30,14 +30,39 @@ unfoldable pub samplesIn : List ℕ → ℕ → List Float → List ℕ
 unfolding put countIn bytesOf
 samplesIn buffer at xs = put buffer at (bytesOf (take (countIn (length buffer) at (length xs)) xs))
 
--- "The header of a sheet goes to the buffer's first 44 bytes (.. 30 if there are fewer)": the answer
-unfoldable pub headerAnswer : ℕ → Written
-headerAnswer room = elim (leb 44 room) [ true ↦ Wrote 44 | false ↦ TooShort ]
+-- ---- what a caller is told
+
+-- a refusal number, 0 for none, how many bytes were written, and a line
+pub record Told : Type 0 where
+  pub number : ℕ
+  pub count : ℕ
+  pub line : ℕ
+
+-- so many bytes are written
+abbrev pub written : ℕ → Told
+written n = record { number = 0; count = n; line = 0 }
+
+-- "28 to 30 return count 0, line 0, and write nothing"
+abbrev pub refused : ℕ → Told
+refused number = record { number = number; count = 0; line = 0 }
+
+-- document 01's number and values for each case of a writer's answer
+unfoldable pub told : Written → Told
+told (Wrote n) = written n
+told TooShort = refused 30
+
+-- ---- a header
+
+-- "The header of a sheet goes to the buffer's first 44 bytes (.. 30 if there are fewer)": what the caller is told
+unfoldable pub headerTold : ℕ → Told
+headerTold room = elim (leb 44 room) [ true ↦ written 44 | false ↦ refused 30 ]
 
 -- and the buffer afterwards: the header in front, or every byte as it was
 unfoldable pub headerIn : ℕ → ℕ → ℕ → List ℕ → List ℕ
 unfolding put header
 headerIn size rate n buffer = elim (leb 44 (length buffer)) [ true ↦ put buffer 0 (header size rate n) | false ↦ buffer ]
+
+-- ---- a file
 
 -- "over 2,000,000,000 given samples"
 abbrev pub fileMost : ℕ
@@ -47,10 +72,10 @@ fileMost = 2000000000
 unfoldable pub fitsFile : ℕ → ℕ → Bool
 fitsFile samples room = leb samples fileMost && leb (44 + 2 * samples) room
 
--- the answer: how many bytes the file has, or refusal 30
-unfoldable pub fileAnswer : ℕ → ℕ → Written
+-- what the caller is told: how many bytes the file has, or refusal 30
+unfoldable pub fileTold : ℕ → ℕ → Told
 unfolding fitsFile
-fileAnswer samples room = elim (fitsFile samples room) [ true ↦ Wrote (44 + 2 * samples) | false ↦ TooShort ]
+fileTold samples room = elim (fitsFile samples room) [ true ↦ written (44 + 2 * samples) | false ↦ refused 30 ]
 
 -- the buffer afterwards: the file in front, or every byte as it was
 unfoldable pub fileIn : ℕ → List Float → List ℕ → List ℕ
@@ -58,8 +83,3 @@ unfolding fitsFile put header oldSize bytesOf
 fileIn rate xs buffer =
     elim (fitsFile (length xs) (length buffer))
     [ true ↦ put buffer 0 (header (oldSize (length xs)) rate (length xs) ++ bytesOf xs) | false ↦ buffer ]
-
--- document 01's refusal number for an answer, 0 for none
-unfoldable pub refusalOf : Written → ℕ
-refusalOf (Wrote n) = 0
-refusalOf TooShort = 30

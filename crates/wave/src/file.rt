@@ -7,7 +7,7 @@ ghost use mathlib.Core.Path.{_≡_};
 ghost use Prim.Native.Nat.{_*_, _/_, _≤_, min};
 ghost use lib.ListN.{length, take};
 ghost use Rattle.wave.specs.Sample.{bytesOf};
-ghost use Rattle.wave.specs.File.{put, countIn, samplesIn, headerAnswer, headerIn, fileAnswer, fileIn};
+ghost use Rattle.wave.specs.File.{put, countIn, samplesIn, told, headerTold, headerIn, fileTold, fileIn};
 
 // What became of a write: so many bytes were written, or the buffer is too short (refusal 30).
 pub enum Written {
@@ -68,7 +68,7 @@ fn store(buffer: &mut [u8], bytes: &[u8])
 // Writes the header of a file of n samples into the buffer's first 44 bytes. A buffer that has fewer
 // is refused, and then nothing is written.
 pub fn write_header(buffer: &mut [u8], size: u32, rate: u32, n: u32) -> Written
-    ensures answer { λ r. ⌜ r ≡ headerAnswer (length (now (buffer .entry))) ⌝ }
+    ensures answer { λ r. ⌜ told r ≡ headerTold (length (now (buffer .entry))) ⌝ }
     ensures bytes { λ _. ⌜ now (buffer .exit) ≡ headerIn size rate n (now (buffer .entry)) ⌝ }
 {
     if buffer.len() < 44 {
@@ -82,7 +82,7 @@ pub fn write_header(buffer: &mut [u8], size: u32, rate: u32, n: u32) -> Written
 // Writes the file of the given n samples into the buffer's first 44 + 2n bytes. Over 2,000,000,000
 // samples or a buffer that has fewer bytes is refused, and then nothing is written.
 pub fn write_file(buffer: &mut [u8], samples: &[f32], rate: u32) -> Written
-    ensures answer { λ r. ⌜ r ≡ fileAnswer (length (now (samples .entry))) (length (now (buffer .entry))) ⌝ }
+    ensures answer { λ r. ⌜ told r ≡ fileTold (length (now (samples .entry))) (length (now (buffer .entry))) ⌝ }
     ensures bytes { λ _. ⌜ now (buffer .exit) ≡ fileIn rate (now (samples .entry)) (now (buffer .entry)) ⌝ }
 {
     let n = samples.len();

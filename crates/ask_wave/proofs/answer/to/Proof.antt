@@ -3,7 +3,7 @@ use mathlib.Core.Path.{ap, _∙_}
 use Prim.Native.Nat.{ℕ}
 use borrow.Author.Needs.{needs}
 use borrow.Author.Tests.{eq-eqb, ne-eqb}
-use Rattle.ask_wave.specs.Answer.{writtenAnswer, answerTo, bufferTo}
+use Rattle.ask_wave.specs.Answer.{printed, answerTo, bufferTo}
 use Rattle.ask_wave.proofs.answer.to.Statement.{statement}
 use Rattle.ask_wave.proofs.answer.to.Tie as tie
 
@@ -21,7 +21,7 @@ unfolding answerTo bufferTo
 returns c =
     let w = c .before .before .before in
     let is = eq-eqb _ _ (w .before .before .if1 .taken) in (
-      rw (is, answerTo) (c .of-written .ensures ∙ ap writtenAnswer (w .write-file .ensures .0)),
+      rw (is, answerTo) (c .of-written .ensures ∙ ap printed (w .write-file .ensures .0)),
       rw (is, bufferTo) (w .write-file .ensures .1),
     )
 
@@ -59,7 +59,7 @@ returns-3 c =
     let w = c .before .before .before in
     let not-file = ne-eqb _ _ (w .before .before .before .before .if1 .left) in
     let not-window = ne-eqb _ _ (w .before .before .if2 .left) in (
-      rw (not-file, not-window, answerTo) (c .of-written2 .ensures ∙ ap writtenAnswer (w .write-header .ensures .0)),
+      rw (not-file, not-window, answerTo) (c .of-written2 .ensures ∙ ap printed (w .write-header .ensures .0)),
       rw (not-file, not-window, bufferTo) (w .write-header .ensures .1),
     )
 

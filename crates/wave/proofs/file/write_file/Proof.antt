@@ -5,14 +5,14 @@ use mathlib.Core.List.{List}
 use Prim.Native.Nat.{ℕ}
 use borrow.Author.Needs.{needs}
 use borrow.Author.Tests.{le-leb, lt-leb}
-use Rattle.wave.specs.File.{samplesIn, fileAnswer, fileIn}
+use Rattle.wave.specs.File.{samplesIn, told, fileTold, fileIn}
 use Rattle.wave.proofs.Writes.{file-put}
 use Rattle.wave.proofs.file.write_file.Statement.{statement}
 use Rattle.wave.proofs.file.write_file.Tie as tie
 
 returns : tie.Need-returns
-unfolding fileAnswer fileIn
-returns c = (rw (lt-leb _ _ (c .if1 .taken), fileAnswer), rw (lt-leb _ _ (c .if1 .taken), fileIn))
+unfolding told fileTold fileIn
+returns c = (rw (lt-leb _ _ (c .if1 .taken), fileTold), rw (lt-leb _ _ (c .if1 .taken), fileIn))
 
 mul-if2 : tie.Need-mul-if2
 mul-if2 c = search needs
@@ -21,10 +21,10 @@ add-if2 : tie.Need-add-if2
 add-if2 c = search needs
 
 returns-2 : tie.Need-returns-2
-unfolding fileAnswer fileIn
+unfolding told fileTold fileIn
 returns-2 c =
     let few = c .before .if1 .left in
-    (rw (le-leb _ _ few, lt-leb _ _ (c .if2 .taken), fileAnswer), rw (le-leb _ _ few, lt-leb _ _ (c .if2 .taken), fileIn))
+    (rw (le-leb _ _ few, lt-leb _ _ (c .if2 .taken), fileTold), rw (le-leb _ _ few, lt-leb _ _ (c .if2 .taken), fileIn))
 
 mul-write-header : tie.Need-mul-write-header
 mul-write-header c = search needs
@@ -54,13 +54,13 @@ same-length : tie.Need-same-length
 same-length c = search needs
 
 returns-3 : tie.Need-returns-3
-unfolding fileAnswer fileIn
+unfolding told fileTold fileIn
 returns-3 c =
     let w = c .before .before .before .before .before .before in
     let room = w .before .before .if2 .left in
     let few = w .before .before .before .if1 .left in
     let s = w .before .before .before .before .before .before in (
-      rw (le-leb _ _ few, le-leb _ _ room, fileAnswer),
+      rw (le-leb _ _ few, le-leb _ _ room, fileTold),
       rw (le-leb _ _ few, le-leb _ _ room, fileIn)
           (c .before .before .write-samples .ensures .1
           ∙ ap (λ (b : List ℕ). samplesIn b 44 (s .args .samples .now)) (w .write-header .ensures .1)

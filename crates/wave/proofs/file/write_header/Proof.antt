@@ -2,14 +2,14 @@
 use mathlib.Core.Path.{sym, ap, _∙_}
 use borrow.Author.Needs.{needs}
 use borrow.Author.Tests.{le-leb, lt-leb}
-use Rattle.wave.specs.File.{put, headerAnswer, headerIn}
+use Rattle.wave.specs.File.{put, told, headerTold, headerIn}
 use Rattle.wave.proofs.Writes.{header-put}
 use Rattle.wave.proofs.file.write_header.Statement.{statement}
 use Rattle.wave.proofs.file.write_header.Tie as tie
 
 returns : tie.Need-returns
-unfolding headerAnswer headerIn
-returns c = (rw (lt-leb _ _ (c .if1 .taken), headerAnswer), rw (lt-leb _ _ (c .if1 .taken), headerIn))
+unfolding told headerTold headerIn
+returns c = (rw (lt-leb _ _ (c .if1 .taken), headerTold), rw (lt-leb _ _ (c .if1 .taken), headerIn))
 
 header-requires : tie.Need-header-requires
 header-requires c κs = search needs
@@ -24,12 +24,12 @@ same-length : tie.Need-same-length
 same-length c = search needs
 
 returns-2 : tie.Need-returns-2
-unfolding headerAnswer
+unfolding told headerTold
 returns-2 c =
     let h = c .before .before .before .before .before in
     let room = h .before .if1 .left in
     let s = h .before .before .before in (
-      rw (le-leb _ _ room, headerAnswer),
+      rw (le-leb _ _ room, headerTold),
       c .before .before .store .ensures
           ∙ ap (put (s .args .buffer .now) 0) (h .header .ensures)
           ∙ sym (header-put (s .args .size) (s .args .rate) (s .args .n) (s .args .buffer .now) room),
