@@ -2,6 +2,7 @@ pub mod Accepted
 pub mod Demand3
 pub mod Descent
 pub mod Examples
+pub mod Filled
 pub mod Filling
 pub mod Rounds
 pub mod Running

@@ -130,9 +130,9 @@ impl Instrument {
         let mut saved = [0.0f32; 64];
         let mut value: f32 = 0.0;
         let mut depth: usize = 0;
-        let count = at_most_64(self.count);
+        let most = at_most_64(self.count);
         let mut k: usize = 0;
-        while k < count {
+        while k < most {
             let slot = self.commands[k];
             let command = slot.command;
             let next = step(

@@ -12,11 +12,11 @@ use Rattle.instrument.proofs.machine.Instrument.eval.Statement.{stateme
 use Rattle.instrument.proofs.machine.Instrument.eval.Tie as tie
 
 abbrev Inv-loop : tie.InvT-loop
-Inv-loop f d t self table counts₀ saved₀ value₀ depth₀ count k₀ counts saved value depth k =
-    (table ≡ quarter) × (count ≡ min (self .count) 64) × (k ≤ count) × Running f d t self k depth value counts saved
+Inv-loop f d t self table counts₀ saved₀ value₀ depth₀ most k₀ counts saved value depth k =
+    (table ≡ quarter) × (most ≡ min (self .count) 64) × (k ≤ most) × Running f d t self k depth value counts saved
 
 abbrev μ-loop : tie.MeasureT-loop
-μ-loop f d t self table counts₀ saved₀ value₀ depth₀ count k₀ counts saved value depth k = count - k
+μ-loop f d t self table counts₀ saved₀ value₀ depth₀ most k₀ counts saved value depth k = most - k
 
 -- an instrument that is owned has 64 slots
 full : (c : tie.Start Inv-loop μ-loop) → length (c .args .t1 .commands) ≡ 64
