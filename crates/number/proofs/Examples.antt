@@ -8,7 +8,7 @@ use Rattle.number.specs.declared.decimal.Decimal.{Decimal}
 use Rattle.number.specs.declared.decimal.Decimal.the-variants.{Value, Unreadable, TooLong}
 use Rattle.number.specs.declared.digits.Int.the-variants.{Number, Absent}
 use Rattle.text.specs.Quoted.{bytes}
-use Rattle.number.specs.Digits.{intAt}
+use Rattle.number.specs.Digits.{valueMost, countMost, intAt}
 use Rattle.number.specs.Decimal.{decimalAt}
 
 -- the decimal that a text begins with
@@ -57,12 +57,12 @@ long = (refl, refl, refl, refl, refl, refl)
 
 -- digit runs: absent, over the limit, leading zeros of any length, a place inside a text and one past it
 pub runs :
-    (intAt 4294967295 (bytes "c4294967295.") 1 ≡ Number 4294967295 11)
-    × (intAt 4294967295 (bytes "c4294967296.") 1 ≡ Absent)
-    × (intAt 18446744073709551615 (bytes "18446744073709551615") 0 ≡ Number 18446744073709551615 20)
-    × (intAt 18446744073709551615 (bytes "18446744073709551616") 0 ≡ Absent)
-    × (intAt 4294967295 (bytes "00000000000000000000000042") 0 ≡ Number 42 26)
-    × (intAt 4294967295 (bytes "c.") 1 ≡ Absent)
-    × (intAt 4294967295 (bytes "7") 9 ≡ Absent)
+    (intAt valueMost (bytes "c4294967295.") 1 ≡ Number 4294967295 11)
+    × (intAt valueMost (bytes "c4294967296.") 1 ≡ Absent)
+    × (intAt countMost (bytes "18446744073709551615") 0 ≡ Number 18446744073709551615 20)
+    × (intAt countMost (bytes "18446744073709551616") 0 ≡ Absent)
+    × (intAt valueMost (bytes "00000000000000000000000042") 0 ≡ Number 42 26)
+    × (intAt valueMost (bytes "c.") 1 ≡ Absent)
+    × (intAt valueMost (bytes "7") 9 ≡ Absent)
 unfolding bytes intAt
 runs = (refl, refl, refl, refl, refl, refl, refl)

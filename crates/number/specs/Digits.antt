@@ -4,12 +4,20 @@
 -- Assumes nothing.
 use mathlib.Core.Bool.{Bool, true, false, _&&_}
 use mathlib.Core.List.{List, [], _∷_}
-use Prim.Native.Nat.{ℕ, _+_, _-_, _*_}
+use Prim.Native.Nat.{ℕ, _+_, _-_, _*_, _^_}
 use lib.Dec.{leb}
 use lib.ListN.{length, drop}
 use Rattle.text.specs.Fronts.{front}
 use Rattle.number.specs.declared.digits.Int.{Int}
 use Rattle.number.specs.declared.digits.Int.the-variants.{Number, Absent}
+
+-- "not found if absent or over 4,294,967,295": the most that a digit run of a value, an octave, a tempo or a feedback may be
+abbrev pub valueMost : ℕ
+valueMost = 4294967295
+
+-- "absent if over 2^64 - 1": the most that a loop's count may be
+abbrev pub countMost : ℕ
+countMost = 2 ^ 64 - 1
 
 -- a digit is one of the bytes from `0` to `9`
 unfoldable pub isDigit : ℕ → Bool
