@@ -3,7 +3,7 @@
     oracle/compare-sheets [SEED [COUNT]]
 
 It prints one line with the counts per refusal number. A difference ends it with status 1 and
-the smallest sheet that shows one; where the Rust cannot be built it says so and ends with 3.
+the smallest sheet that shows one.
 """
 
 import sys

@@ -1,7 +1,7 @@
 """Builds and runs the two oracle programs for the scripts that compare with them.
 
-A program that cannot be built here raises CannotRun, which is not a failure of what is
-compared; a program that crashes or does not finish raises Broken and names the sheet.
+A program that cannot be built raises Broken and says what is missing; one that crashes or does not
+finish raises it and names the sheet.
 """
 
 import subprocess
@@ -11,11 +11,6 @@ from escaped import escape
 
 ROOT = Path(__file__).resolve().parent.parent
 NAMES = ("given", "ruled")
-STATUS_CANNOT_RUN = 3
-
-
-class CannotRun(Exception):
-    """Something the Rust needs is not at hand."""
 
 
 class Broken(Exception):
@@ -23,12 +18,9 @@ class Broken(Exception):
 
 
 def status_of(name, work):
-    """The exit status of a script's work: its own, or what a missing tool or a failure comes to."""
+    """The exit status of a script's work: its own, or what a failure comes to."""
     try:
         return work()
-    except CannotRun as absent:
-        print(absent)
-        return STATUS_CANNOT_RUN
     except Broken as broken:
         print(f"{name}: {broken}")
         return 1
@@ -37,10 +29,8 @@ def status_of(name, work):
 def build():
     """Builds both programs; gives the compiler's version and the flags."""
     done = subprocess.run([ROOT / "oracle" / "build"], capture_output=True, text=True)
-    if done.returncode == STATUS_CANNOT_RUN:
-        raise CannotRun(done.stderr.strip())
     if done.returncode != 0:
-        raise Broken(f"oracle/build failed:\n{done.stderr}")
+        raise Broken(f"the Rust is not built: {done.stderr.strip()}")
     return done.stdout.strip().partition(" with ")[2]
 
 

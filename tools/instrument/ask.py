@@ -4,9 +4,8 @@
     tools/compare/instrument store
 
 It asks both for the same values and stretches of samples, thrown by dice, and prints one line with
-the counts. A difference ends it with status 1 and the smallest question that shows one; where
-something needed is not at hand it says so and ends with 3. `store` writes the requests that
-crates/ask_instrument keeps, and what the Rust answers to them.
+the counts. A difference ends it with status 1 and the smallest question that shows one. `store`
+writes the requests that crates/ask_instrument keeps, and what the Rust answers to them.
 """
 
 import re
@@ -32,7 +31,7 @@ EXAMPLES = ROOT / "crates" / "instrument" / "proofs" / "Examples.antt"
 TWO_PI = bits32.mul(cases.TWO, 0x4049_0FDB)
 
 
-class Differs(Exception):
+class Differs(programs.Broken):
     """The two do not agree."""
 
 
@@ -58,10 +57,9 @@ def proved(records):
     done = subprocess.run(
         [ROOT / "tools" / "run", "ask_instrument"], input=records, capture_output=True, timeout=SECONDS
     )
-    if done.returncode == programs.STATUS_CANNOT_RUN:
-        raise programs.CannotRun(done.stderr.decode().strip())
     if done.returncode != 0:
-        raise programs.Broken(f"ask_instrument ended with status {done.returncode}")
+        said = done.stderr.decode(errors="replace").strip()
+        raise programs.Broken(f"ask_instrument ended with status {done.returncode}{said and ': ' + said}")
     return done.stdout
 
 
@@ -178,20 +176,13 @@ def whole_comparison(seed):
 
 
 def main(arguments):
-    try:
-        programs.build()
-        if arguments == ["store"]:
-            store()
-        else:
-            print("instrument:", whole_comparison(int(arguments[0]) if arguments else SEED))
-        return 0
-    except programs.CannotRun as absent:
-        print(absent)
-        return programs.STATUS_CANNOT_RUN
-    except (programs.Broken, Differs) as fault:
-        print(f"instrument: {fault}")
-        return 1
+    programs.build()
+    if arguments == ["store"]:
+        store()
+    else:
+        print("instrument:", whole_comparison(int(arguments[0]) if arguments else SEED))
+    return 0
 
 
 if __name__ == "__main__":
-    sys.exit(main(sys.argv[1:]))
+    sys.exit(programs.status_of("instrument", lambda: main(sys.argv[1:])))

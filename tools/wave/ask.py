@@ -5,7 +5,7 @@
     ask.py file COUNT           writes the file of COUNT samples that it makes
 
 The programs must be built. A difference ends it with status 1 and the smallest request that
-shows one; where the program cannot run here, tools/run says so and it ends with 3.
+shows one.
 """
 
 import subprocess
@@ -15,7 +15,6 @@ import cases
 import protocol
 
 CRATE = protocol.ROOT / "crates" / "ask_wave"
-STATUS_CANNOT_RUN = 3
 # A run's answers are held in memory.
 MOST_AT_ONCE = 2_000_000
 
@@ -23,8 +22,6 @@ MOST_AT_ONCE = 2_000_000
 def proved(text):
     """What the proved program answers to encoded requests."""
     done = subprocess.run([protocol.ROOT / "tools" / "run", "ask_wave"], input=text, stdout=subprocess.PIPE)
-    if done.returncode == STATUS_CANNOT_RUN:
-        sys.exit(STATUS_CANNOT_RUN)
     if done.returncode != 0:
         sys.exit(f"wave: ask_wave ended with status {done.returncode}")
     return done.stdout
