@@ -16,7 +16,7 @@
 //!   number-requests SEED COUNT    no input; requests for numbers (asked.rs), thrown by dice
 //!   number-samples                no input; the requests that are stored
 //!   number-answers                requests; the answers to them (numbers.rs)
-//!   number-counts                 requests; how many of each kind
+//!   number-counts R A B           no input; how many of R's requests A and B answer alike, by kind
 //!   number-difference R A B       no input; the smallest of R's requests that A and B answer apart
 //!   sine-ranges START LOG2 COUNT  no input; requests for the sines of ranges of bit patterns
 
@@ -59,7 +59,7 @@ fn main() {
         "number-requests" => put(&asked::requests(argument(2), argument(3))),
         "number-samples" => put(&asked::samples()),
         "number-answers" => put(&numbers::answers(&input())),
-        "number-counts" => put((numbers::counts(&input()) + "\n").as_bytes()),
+        "number-counts" => put(numbers::counts(&file(2), &file(3), &file(4)).as_bytes()),
         "number-difference" => {
             put((numbers::difference(&file(2), &file(3), &file(4)) + "\n").as_bytes())
         }

@@ -235,17 +235,17 @@ fn sines(start: u32, count: u32) -> u64 {
 
 // In words.
 
-/// `N decimal texts, N digit runs ..` of a file of requests, kinds that it lacks left out.
-pub fn counts(bytes: &[u8]) -> String {
-    let mut found = [0; KINDS.len()];
-    for r in of_bytes(bytes) {
-        found[known(r.kind())] += 1;
+/// A line `N KIND` for each kind of request to which two whole answers came that are the same.
+pub fn counts(requests: &[u8], expected: &[u8], found: &[u8]) -> String {
+    let mut alike = [0; KINDS.len()];
+    let answers = expected.chunks_exact(16).zip(found.chunks_exact(16));
+    for (r, (one, other)) in of_bytes(requests).iter().zip(answers) {
+        if one == other {
+            alike[known(r.kind())] += 1;
+        }
     }
-    let lines = found.iter().zip(KINDS).filter(|(n, _)| **n > 0);
-    lines
-        .map(|(n, kind)| format!("{n} {kind}"))
-        .collect::<Vec<_>>()
-        .join(", ")
+    let lines = alike.iter().zip(KINDS).filter(|(n, _)| **n > 0);
+    lines.map(|(n, kind)| format!("{n} {kind}\n")).collect()
 }
 
 fn known(kind: u8) -> usize {

@@ -4,8 +4,9 @@
     tools/compare/instrument store
 
 It asks both for the same values and stretches of samples, thrown by dice, and prints one line with
-the counts. A difference ends it with status 1 and the smallest question that shows one. `store`
-writes the requests that crates/ask_instrument keeps, and what the Rust answers to them.
+the counts. A difference ends it with status 1 and the smallest question that shows one; so does a run
+that compared less than its floors. `store` writes the requests that crates/ask_instrument keeps, and
+what the Rust answers to them.
 """
 
 import re
@@ -23,8 +24,10 @@ import asked
 import cases
 import programs
 from dice import Dice
+from floors import shortfall
 
 SEED = 1
+FLOORS = {"instruments": 10_000, "answers": 510_000, "values": 600_000}
 SECONDS = 120
 CRATE = ROOT / "crates" / "ask_instrument"
 EXAMPLES = ROOT / "crates" / "instrument" / "proofs" / "Examples.antt"
@@ -44,12 +47,12 @@ def rust(mode, text):
 
 
 def expected(asking):
-    """What must be answered to each question, from the Rust's values; and how many values."""
+    """What must be answered to each question, from the Rust's values; and how many values each has."""
     text, sizes = asked.lines(asking)
     values = rust("eval", text)
     if len(values) != sum(sizes):
         raise programs.Broken("the Rust did not answer every question")
-    return asked.answers(asking, values, sizes), len(values)
+    return asked.answers(asking, values, sizes), sizes
 
 
 def proved(records):
@@ -67,7 +70,8 @@ def proved(records):
 
 
 def words(answer):
-    return struct.unpack(f"<{len(answer) // 4}I", answer)
+    """The numbers of an answer; one that is cut short may end with a piece of one."""
+    return struct.unpack_from(f"<{len(answer) // 4}I", answer)
 
 
 def first_apart(wanted, found):
@@ -78,28 +82,44 @@ def first_apart(wanted, found):
     return "ask_instrument answered less"
 
 
-def differences(asking, answers, found):
-    """For each question that is answered apart: its size, and an account of it."""
-    place, answers = 0, iter(answers)
-    for instrument, questions in asking:
-        for question in questions:
-            wanted = next(answers)
-            answer = found[place : place + len(wanted)]
-            place += len(wanted)
-            if answer != wanted:
-                account = instrument.lines() + [question.account(), first_apart(wanted, answer)]
-                yield len(account), len(wanted), "\n".join(account)
+class Comparison:
+    """Counts what agrees, and keeps the size and an account of each question that is answered apart."""
+
+    def __init__(self):
+        self.counts = dict.fromkeys(FLOORS, 0)
+        self.apart = []
+
+    def hold(self, instrument, question, wanted, answer):
+        """Holds one answer against the wanted one; says whether it is the same."""
+        if answer != wanted:
+            account = instrument.lines() + [question.account(), first_apart(wanted, answer)]
+            self.apart.append((len(account), len(wanted), "\n".join(account)))
+        return answer == wanted
+
+    def hold_all(self, asking, answers, sizes, found):
+        place, expectations = 0, zip(answers, sizes)
+        for instrument, questions in asking:
+            agreed = 0
+            for question in questions:
+                wanted, size = next(expectations)
+                if self.hold(instrument, question, wanted, found[place : place + len(wanted)]):
+                    agreed += 1
+                    self.counts["values"] += size
+                place += len(wanted)
+            self.counts["answers"] += agreed
+            self.counts["instruments"] += agreed > 0
 
 
 def compare(asking):
-    """How many questions and values agree; raises Differs with the smallest that does not."""
-    answers, count = expected(asking)
+    """How many instruments, answers and values agree; raises Differs with the smallest that does not."""
+    answers, sizes = expected(asking)
     found = proved(asked.records(asking))
+    done = Comparison()
+    done.hold_all(asking, answers, sizes, found)
     if found != b"".join(answers):
-        apart = sorted(differences(asking, answers, found))
-        what = apart[0][2] if apart else "ask_instrument answered more than it was asked"
-        raise Differs(f"{len(apart)} of {len(answers)} answers differ; the smallest:\n{what}")
-    return len(answers), count
+        what = min(done.apart)[2] if done.apart else "ask_instrument answered more than it was asked"
+        raise Differs(f"{len(done.apart)} of {len(answers)} answers differ; the smallest:\n{what}")
+    return done.counts
 
 
 # ---- what is kept
@@ -167,12 +187,12 @@ def note_frequencies():
 def whole_comparison(seed):
     check_stored()
     check_examples()
-    asking = cases.thrown(Dice(seed), note_frequencies())
-    answers, count = compare(asking)
-    return (
-        f"{len(asking)} instruments, {answers} answers, {count} values (seed {seed}); "
-        "the stored answers and both worked examples: no difference"
-    )
+    counts = compare(cases.thrown(Dice(seed), note_frequencies()))
+    short = shortfall(counts, FLOORS)
+    if short:
+        raise programs.Broken(short)
+    counted = ", ".join(f"{number} {what}" for what, number in counts.items())
+    return f"compared {counted} (seed {seed}); the stored answers and both worked examples: no difference"
 
 
 def main(arguments):

@@ -1,11 +1,11 @@
 """Asks crates/ask_wave for WAV bytes.
 
-    ask.py compare SEED FILES   holds its answers against the given Rust's; FILES files of thrown samples, twice
-    ask.py store                writes the crate's stdin and, from the Rust, its stdout
-    ask.py file COUNT           writes the file of COUNT samples that it makes
+    ask.py compare [SEED [FILES]]   holds its answers against the given Rust's; FILES files of thrown samples, twice
+    ask.py store                    writes the crate's stdin and, from the Rust, its stdout
+    ask.py file COUNT               writes the file of COUNT samples that it makes
 
 The programs must be built. A difference ends it with status 1 and the smallest request that
-shows one.
+shows one. So does a run that compared less than its floors; one with a FILES of its own has none.
 """
 
 import subprocess
@@ -14,7 +14,14 @@ import sys
 import cases
 import protocol
 
+sys.path.append(str(protocol.ROOT / "oracle"))
+
+from floors import shortfall
+
 CRATE = protocol.ROOT / "crates" / "ask_wave"
+SEED = 1
+FILES = 64
+FLOORS = {"samples": 2_900_000, "files": 1_300, "windows": 8_200, "headers": 135, "refused": 1_100}
 # A run's answers are held in memory.
 MOST_AT_ONCE = 2_000_000
 
@@ -41,19 +48,16 @@ def batches(requests):
         yield batch
 
 
-def differences(batch):
-    """The requests of a batch that are answered otherwise, each with both answers."""
+def answered(batch):
+    """The requests of a batch, each with the answer it calls for and the one that came."""
     found = proved(b"".join(protocol.encoded(request) for request, _ in batch))
-    if found == b"".join(expected for _, expected in batch):
-        return []
-    differing, at = [], 0
+    triples, at = [], 0
     for request, expected in batch:
-        part = found[at : at + len(expected)]
+        triples.append((request, expected, found[at : at + len(expected)]))
         at += len(expected)
-        if part != expected:
-            differing.append((request, expected, part))
-    # Where every answer is right, something follows the last one.
-    return differing or [(*batch[-1], batch[-1][1] + found[at:])]
+    # What follows the last answer makes it too long.
+    request, expected, last = triples.pop()
+    return triples + [(request, expected, last + found[at:])]
 
 
 def first_apart(one, other):
@@ -64,7 +68,7 @@ def first_apart(one, other):
 def describe(request, expected, found):
     """A request and the first byte that differs, with the bits of the sample that it belongs to."""
     numbers = f"room {request.room}, place {request.place}, rate {request.rate}, count {request.count}"
-    text = f"{('file', 'window', 'header')[request.kind]}, {numbers}: "
+    text = f"{protocol.NAMES[request.kind]}, {numbers}: "
     at = first_apart(expected, found)
     if at < protocol.NUMBERS_BYTES:
         start = slice(protocol.NUMBERS_BYTES)
@@ -75,10 +79,11 @@ def describe(request, expected, found):
     return text if sample is None else text + f", sample {sample:08x}"
 
 
-def counted(tally, request, expected):
-    tally[request.kind] += 1
-    tally["refused"] += protocol.is_refused(expected)
-    tally["samples"] += protocol.samples_written(request, expected)
+def counted(tally, request, answer):
+    """Counts a request by the answer that came, which is the right one."""
+    tally[protocol.NAMES[request.kind] + "s"] += 1
+    tally["refused"] += protocol.is_refused(answer)
+    tally["samples"] += protocol.samples_written(request, answer)
 
 
 def stored_texts():
@@ -90,22 +95,37 @@ def stored_is_right():
     return stored_texts() == tuple((CRATE / name).read_bytes() for name in ("stdin", "stdout"))
 
 
-def compare(seed, files):
+def compared(seed, files):
+    """How many were answered rightly, and the requests that were not, each with both answers."""
+    tally, differing = dict.fromkeys(FLOORS, 0), []
+    for batch in batches(cases.cases(seed, files)):
+        for request, expected, found in answered(batch):
+            if found == expected:
+                counted(tally, request, found)
+            else:
+                differing.append((request, expected, found))
+    return tally, differing
+
+
+def fault_of(tally, differing, floors):
+    """What is wrong with a run, or nothing."""
+    if differing:
+        smallest = min(differing, key=lambda d: (len(d[0].samples), d[0].room))
+        return f"{len(differing)} requests are answered otherwise; the smallest:\n{describe(*smallest)}"
+    return shortfall(tally, floors)
+
+
+def compare(seed=SEED, files=None):
     if not stored_is_right():
         print("wave: crates/ask_wave has another stdin or stdout than oracle/store-wave writes")
         return 1
-    tally = dict.fromkeys((*protocol.KINDS, "refused", "samples"), 0)
-    differing = []
-    for batch in batches(cases.cases(seed, files)):
-        differing += differences(batch)
-        for request, expected in batch:
-            counted(tally, request, expected)
-    if differing:
-        smallest = min(differing, key=lambda d: (len(d[0].samples), d[0].room))
-        print(f"wave: {len(differing)} requests are answered otherwise; the smallest:\n{describe(*smallest)}")
+    tally, differing = compared(seed, FILES if files is None else files)
+    fault = fault_of(tally, differing, FLOORS if files is None else {})
+    if fault:
+        print(f"wave: {fault}")
         return 1
-    print(f"wave: {tally['samples']} samples in {tally[protocol.FILE]} files and {tally[protocol.WINDOW]} windows, "
-          f"{tally[protocol.HEADER]} headers, {tally['refused']} of all refused: no difference (seed {seed})")
+    print(f"wave: compared {tally['samples']} samples in {tally['files']} files and {tally['windows']} windows, "
+          f"{tally['headers']} headers, {tally['refused']} of all refused: no difference (seed {seed})")
     return 0
 
 

@@ -14,7 +14,8 @@ from typing import NamedTuple
 ROOT = Path(__file__).resolve().parent.parent.parent
 RUST = ROOT / "target" / "oracle" / "given"
 
-KINDS = FILE, WINDOW, HEADER = 0, 1, 2
+FILE, WINDOW, HEADER = 0, 1, 2
+NAMES = ("file", "window", "header")
 RATE = 44_100
 TOO_SHORT = 30
 HEADER_BYTES = 44
