@@ -1,4 +1,4 @@
-"""Holds the model of document 01 against the two Rust programs and the hand-made answers.
+"""Holds the model of document 01 against the two Rust programs and the answers written down.
 
 Inside the domain a refusal must be the Rust's `err` and an accepted sheet must have the Rust's
 parts, notes and commands. Refusals that name a capacity put a sheet outside the domain; the Rust
@@ -27,7 +27,10 @@ OUTSIDE = {
 
 
 class Case:
-    """A sheet, where it comes from, the model's answer and, inside the domain, the Rust's."""
+    """A sheet, where it comes from, the model's answer and, inside the domain, the Rust's.
+
+    `written` is the answer that is known without either, if one is.
+    """
 
     def __init__(self, label, sheet, written=None):
         self.label = label
@@ -44,6 +47,10 @@ class Case:
 
     def in_domain(self):
         return self.number not in OUTSIDE
+
+    def is_judged(self):
+        """Whether the model's answer was held against another: outside the domain the Rust has none."""
+        return set(self.rust) == set(programs.NAMES) if self.in_domain() else self.written is not None
 
     def expected(self):
         """What the Rust must answer."""
@@ -86,7 +93,7 @@ def ask_rust(cases):
 def fault_of(case, powers):
     """What is wrong with a case, or None."""
     if case.written is not None and not limits.agrees(case.written, case.answer[0]):
-        return f"the hand-made answer is {case.written}, the model's {case.answer[0]}"
+        return f"the answer written down is {case.written}, the model's {case.answer[0]}"
     if not case.in_domain():
         return None
     wanted = case.expected()
