@@ -257,12 +257,16 @@ def compare(path, c, table):
     found_c = source_c(text, path)
     if len(found_table) != len(table):
         verdict("the table in %s has %d entries, expected %d" % (path, len(found_table), len(table)))
-    for i in range(len(table)):
-        if found_table[i] != table[i]:
-            verdict("T[%d] differs in %s: found %s, expected %d" % (i, path, found_table[i], table[i]))
+    compared = 0
+    for found, expected in zip(found_table, table):
+        if found != expected:
+            verdict("T[%d] differs in %s: found %s, expected %d" % (compared, path, found, expected))
+        compared += 1
     if found_c != c:
         verdict("C differs in %s: found %s, expected %d" % (path, found_c, c))
-    print("turn: 1025 entries and C agree with %s" % path)
+    if compared < LAST + 1:
+        verdict("too few compared: %d entries, at least %d" % (compared, LAST + 1))
+    print("turn: compared %d entries and C of %s: no difference" % (compared, path))
 
 
 # Prints the values in the form that a reader or another program can take apart by spaces.
