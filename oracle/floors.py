@@ -6,6 +6,9 @@ gives.
 """
 
 
+SHOWN = 3
+
+
 def shortfall(counts, floors):
     """What was compared less often than its floor says, in words; nothing where all is well."""
     short = [
@@ -13,4 +16,5 @@ def shortfall(counts, floors):
         for what, least in floors.items()
         if counts.get(what, 0) < least
     ]
-    return "too few compared: " + "; ".join(short) if short else ""
+    rest = [f"{len(short) - SHOWN} more"] if len(short) > SHOWN else []
+    return "too few compared: " + "; ".join(short[:SHOWN] + rest) if short else ""
