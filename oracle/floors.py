@@ -6,6 +6,7 @@ gives.
 """
 
 
+# The first few tell enough.
 SHOWN = 3
 
 
