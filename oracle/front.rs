@@ -4,6 +4,7 @@
 //!
 //! Modes, each with what it reads from standard input, if anything, and what it writes:
 //!   notes     a sheet; `err`, or parts, notes, instruments and commands
+//!   message   a sheet; the engine's error text, or `ok`
 //!   wav       a sheet; the WAV bytes, or `err`
 //!   raw       a sheet; its samples as little-endian f32, or `err`
 //!   samples   little-endian f32 samples; the WAV bytes of them
@@ -46,6 +47,7 @@ fn main() {
     let mode = std::env::args().nth(1).unwrap_or_default();
     match mode.as_str() {
         "notes" => put(notes(&input()).as_bytes()),
+        "message" => put((message(&input()) + "\n").as_bytes()),
         "wav" => put(&sound(&input(), wave_bytes)),
         "raw" => put(&sound(&input(), raw_bytes)),
         "samples" => put(&wave_bytes(samples(&input()))),
@@ -140,6 +142,13 @@ fn notes(sheet: &[u8]) -> String {
     match std::str::from_utf8(sheet) {
         Err(_) => NOT_UTF8.to_string(),
         Ok(text) => parser::parse(text).map_or(ERR.to_string(), |info| dump(&info)),
+    }
+}
+
+fn message(sheet: &[u8]) -> String {
+    match std::str::from_utf8(sheet) {
+        Err(_) => NOT_UTF8.trim_end().to_string(),
+        Ok(text) => parser::parse(text).map_or_else(|text| text, |_| "ok".to_string()),
     }
 }
 
