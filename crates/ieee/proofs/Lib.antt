@@ -1,4 +1,5 @@
 pub mod Constants
 pub mod Nonnegative
+pub mod Scaling
 pub mod Sign
 pub mod Times

@@ -147,17 +147,17 @@ under : (n q d p l w : ℕ) → n < p * d → 0 < l → n * l ≡ q * d → w �
 under n q d p l w h k e v = lt-of-mul-lt-mul-right d (omega (arith, mul-lt-mul-of-pos-right h k, ap (λ (z : ℕ). z * d) v))
 
 -- a value that the format holds is rounded to itself
-module _ (f : Format) (e : ℤ) where
-  kept : (m : ℕ) → m < 2 ^ prec f → down e ≤ 2 ^ low f → m * up e < 2 ^ suc (emax f) * down e → HasValue (round f false (m * up e) (down e)) false (m * up e) (down e)
+module _ (f : Format) (s : Bool) (e : ℤ) where
+  kept : (m : ℕ) → m < 2 ^ prec f → down e ≤ 2 ^ low f → m * up e < 2 ^ suc (emax f) * down e → HasValue (round f s (m * up e) (down e)) s (m * up e) (down e)
   kept m a b c =
-      let s = in-units (low f) e b in
-      let u : m * up e * 2 ^ low f ≡ m * 2 ^ (s .0) * down e = omega (arith, ap (λ (z : ℕ). m * z) (s .1)) in
-      round-exact f false (m * up e) (down e) m (s .0) (down-pos e) a
-      (under (m * up e) (m * 2 ^ (s .0)) (down e) (2 ^ suc (emax f)) (2 ^ low f) (2 ^ (low f + suc (emax f))) c (pow-pos (low f)) u (pow-add 2 (low f) (suc (emax f)))) u
+      let u = in-units (low f) e b in
+      let w : m * up e * 2 ^ low f ≡ m * 2 ^ (u .0) * down e = omega (arith, ap (λ (z : ℕ). m * z) (u .1)) in
+      round-exact f s (m * up e) (down e) m (u .0) (down-pos e) a
+      (under (m * up e) (m * 2 ^ (u .0)) (down e) (2 ^ suc (emax f)) (2 ^ low f) (2 ^ (low f + suc (emax f))) c (pow-pos (low f)) w (pow-add 2 (low f) (suc (emax f)))) w
 
-  held : (m : ℕ) → T (fits f (fin false m e)) → HasValue (round f false (m * up e) (down e)) false (m * up e) (down e)
+  pub held : (m : ℕ) → T (fits f (fin s m e)) → HasValue (round f s (m * up e) (down e)) s (m * up e) (down e)
   unfolding fits
-  held zero t = round-exact f false (0 * up e) (down e) 0 0 (down-pos e) (pow-pos (prec f)) (pow-pos (low f + suc (emax f))) (omega arith)
+  held zero t = round-exact f s (0 * up e) (down e) 0 0 (down-pos e) (pow-pos (prec f)) (pow-pos (low f + suc (emax f))) (omega arith)
   held (suc m) t =
       let a = eqb (suc m % 2) 1 in
       let b = ltb (suc m) (2 ^ prec f) in
@@ -185,5 +185,5 @@ add-grows f (fin false m e) (fin false n d) t h i =
     let x = round f false (m * up e) (down e) in
     let sum = round f false (m * up e * down d + n * up d * down e) (down e * down d) in
     le-trans (fin false m e) x sum tt (round-nonnegative f (m * up e) (down e)) (round-nonnegative f (m * up e * down d + n * up d * down e) (down e * down d))
-    (le-of-values (fin false m e) x (m * up e) (down e) (m * up e) (down e) (down-pos e) (down-pos e) (refl, refl) (held f e m t) (le-refl (m * up e * down e)))
+    (le-of-values (fin false m e) x (m * up e) (down e) (m * up e) (down e) (down-pos e) (down-pos e) (refl, refl) (held f false e m t) (le-refl (m * up e * down e)))
     (round-mono f (m * up e) (down e) (m * up e * down d + n * up d * down e) (down e * down d) (down-pos e) (mul-pos (down-pos e) (down-pos d)) (omega arith))

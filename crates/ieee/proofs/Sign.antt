@@ -21,3 +21,8 @@ units-neg f s q k = go (ltb (q * 2 ^ k) (2 ^ (low f + suc (emax f))))
 
 pub round-neg : (f : Format) (s : Bool) (n d : ℕ) → round f (not s) n d ≡ neg (round f s n d)
 round-neg f s n d = round-is f (not s) n d ∙ units-neg f s _ _ ∙ ap neg (sym (round-is f s n d))
+
+-- so what rounds alike without a sign rounds alike with either
+pub round-signs : (f : Format) (a b c d : ℕ) → round f false a b ≡ round f false c d → (s : Bool) → round f s a b ≡ round f s c d
+round-signs f a b c d e false = e
+round-signs f a b c d e true = round-neg f false a b ∙ ap neg e ∙ sym (round-neg f false c d)

@@ -1,19 +1,16 @@
--- The floats that the turn sine makes: x - x, and S times 2^-24 with a sign, which is exact since S has at most 24 digits
--- or is 2^24. Assumes nothing.
-use mathlib.Core.Path.{_≡_, refl, sym, ap, _∙_}
+-- The floats that the turn sine makes: x - x, and S times 2^-24 with a sign, which is S / 2^24 rounded once. Assumes nothing.
+use mathlib.Core.Path.{_≡_, sym}
 use mathlib.Core.Bool.{Bool, true, false}
-use Prim.Native.Nat.{ℕ, _*_, _^_, _≤_, _<_}
-use native.Mathlib.Nat.{zero-mul, sub-self, le-refl, mul-pos, mul-assoc}
-use lib.Dec.{lit<}
+use Prim.Native.Nat.{ℕ, _*_, _^_, _<_}
+use native.Mathlib.Nat.{zero-mul, sub-self, le-refl, le-of-lt, mul-pos}
+use lib.Dec.{T, lit<, lit≤}
 use lib.IntN.{ℤ, pos, negsuc}
-use lib.Pow.{pow-pos}
-use lib.Ieee.{Float, nan, inf, fin, binary32, up, down, unlike, round, neg, sum, add, sub, mul, ofInt}
-use lib.Ieee.Back.{round-whole}
-use lib.Ieee.Exact.{HasValue}
+use lib.Ieee.{fin, binary32, up, down, round, neg, sum, add, sub, mul, ofInt}
 use lib.Ieee.Fits.{down-pos}
-use lib.Ieee.Scale.{round-same}
+use lib.Ieee.Scale.{round-same, finite}
 use borrow.Author.Tests.{le-ltb}
 use Rattle.ieee.specs.Constants.{plusZero}
+use Rattle.ieee.proofs.Scaling.{round-finite, round-divided}
 
 -- ---- x - x
 
@@ -34,22 +31,12 @@ less-itself false m e =
 
 -- ---- S * ±2^-24
 
--- a float of the size n times ±2^-24
-scaled : (x : Float) (s t : Bool) (n : ℕ) → HasValue x s n 1 → mul binary32 x (fin t 1 (negsuc 23)) ≡ round binary32 (unlike s t) n (2 ^ 24)
-unfolding mul
-scaled nan s t n v = absurd v
-scaled (inf r) s t n v = absurd v
-scaled (fin r m e) s t n v =
-    ap (λ (b : Bool). round binary32 (unlike b t) (m * up e * 1) (down e * 2 ^ 24)) (v .0)
-    ∙ round-same binary32 (unlike s t) (m * up e * 1) (down e * 2 ^ 24) n (2 ^ 24) (mul-pos (down-pos e) (pow-pos 24)) (pow-pos 24)
-    (ap (λ (k : ℕ). k * 2 ^ 24) (v .1) ∙ mul-assoc n (down e) (2 ^ 24))
-
--- a product with what is not negative has the other factor's sign
-own : (t : Bool) → unlike false t ≡ t
-own true = refl
-own false = refl
+-- 2^32 is no infinity
+top : T (finite (round binary32 false (2 ^ 32) 1))
+unfolding round
+top = tt
 
 -- n as a float times 2^-24 with the sign t is n / 2^24 with that sign, rounded once
-pub unit-times : (t : Bool) (n : ℕ) → n ≤ 2 ^ 24 → mul binary32 (ofInt binary32 (pos n)) (fin t 1 (negsuc 23)) ≡ round binary32 t n (2 ^ 24)
+pub unit-times : (t : Bool) (n : ℕ) → n < 2 ^ 32 → mul binary32 (ofInt binary32 (pos n)) (fin t 1 (negsuc 23)) ≡ round binary32 t n (2 ^ 24)
 unfolding ofInt
-unit-times t n h = scaled (round binary32 false n 1) false t n (round-whole binary32 false n h) ∙ ap (λ (b : Bool). round binary32 b n (2 ^ 24)) (own t)
+unit-times t n h = round-divided binary32 23 (lit≤ tt) t n (round-finite binary32 n (2 ^ 32) (le-of-lt h) top)

@@ -2,6 +2,7 @@
 -- times a power of two, so the position is a quotient by a power of two that the exponent's field gives. Assumes nothing.
 use mathlib.Core.Path.{_≡_, refl, sym, ap, _∙_, subst}
 use mathlib.Core.Bool.{Bool, true, false, cond}
+use mathlib.Core.List.{List}
 use Prim.Native.Nat.{ℕ, zero, suc, _+_, _-_, _*_, _/_, _%_, _^_, _≤_, _<_, zero-le}
 use native.Mathlib.Nat.{mul-assoc, mul-right-comm, mul-mul-mul-comm, add-comm, mul-pos, mul-le-mul, mul-le-mul-right, mul-lt-mul-of-pos-right, le-of-mul-le-mul-right, lt-of-mul-lt-mul-right, le-trans, le-of-eq, lt-of-le-of-lt, lt-of-lt-of-le, le-add-right, div-eq-of-lt}
 use native.Mathlib.Decide.{decLt}
@@ -14,7 +15,7 @@ use lib.Ieee.Exact.{HasValue, odd-sign}
 use lib.Ieee.Fits.{down-pos}
 use lib.Ieee.Nearest.{div-same}
 use borrow.Author.Tests.{le-leb, lt-leb}
-use Rattle.sine.specs.Turn.{C, position, sineAt, turnSine}
+use Rattle.sine.specs.Turn.{C, position, sineAt, turnSineBy}
 use Rattle.sine.specs.Phase.{positionOf}
 use Rattle.sine.proofs.Floats.{less-itself}
 
@@ -43,18 +44,18 @@ module _ (a c : ℕ) (cp : 0 < c) where
       lt-of-mul-lt-mul-right c (lt-of-le-of-lt (le-of-eq h) (lt-of-lt-of-le (mul-lt-mul-of-pos-right k dp) (le-of-eq (mul-right-comm (2 ^ 31) c d))))
 
   -- from 2^31 on its sine is 0.0, which is x - x
-  sine-over : (x : Float) (s : Bool) → HasValue x s a c → 2 ^ 31 * c ≤ a → turnSine x ≡ sub binary32 x x
-  unfolding turnSine
-  sine-over nan s v k = absurd v
-  sine-over (inf t) s v k = absurd v
-  sine-over (fin t m e) s v k = rw (le-leb _ _ (over m (up e) (down e) (down-pos e) (v .1) k), turnSine) (sym (less-itself t m e))
+  sine-over : (table : List ℕ) (x : Float) (s : Bool) → HasValue x s a c → 2 ^ 31 * c ≤ a → turnSineBy table x ≡ sub binary32 x x
+  unfolding turnSineBy
+  sine-over table nan s v k = absurd v
+  sine-over table (inf t) s v k = absurd v
+  sine-over table (fin t m e) s v k = rw (le-leb _ _ (over m (up e) (down e) (down-pos e) (v .1) k), turnSineBy) (sym (less-itself t m e))
 
   -- below 2^31 its sine is the sine at its position
-  sine-under : (x : Float) (s : Bool) → HasValue x s a c → a < 2 ^ 31 * c → turnSine x ≡ sineAt s (positionOf x)
-  unfolding turnSine positionOf
-  sine-under nan s v k = absurd v
-  sine-under (inf t) s v k = absurd v
-  sine-under (fin t m e) s v k = rw (lt-leb _ _ (under m (up e) (down e) (down-pos e) (v .1) k), turnSine) (ap (λ (b : Bool). sineAt b (position m e)) (v .0))
+  sine-under : (table : List ℕ) (x : Float) (s : Bool) → HasValue x s a c → a < 2 ^ 31 * c → turnSineBy table x ≡ sineAt table s (positionOf x)
+  unfolding turnSineBy positionOf
+  sine-under table nan s v k = absurd v
+  sine-under table (inf t) s v k = absurd v
+  sine-under table (fin t m e) s v k = rw (lt-leb _ _ (under m (up e) (down e) (down-pos e) (v .1) k), turnSineBy) (ap (λ (b : Bool). sineAt table b (position m e)) (v .0))
 
 -- ---- the value of a pattern, in units of 2^-149
 
@@ -118,19 +119,19 @@ abbrev pub field : ℕ → ℕ
 field b = b % 2 ^ 31 / 2 ^ 23
 
 -- an infinity less itself is NaN, and so is NaN
-not-finite : (s z : Bool) → turnSine (cond z (inf s) nan) ≡ sub binary32 (cond z (inf s) nan) (cond z (inf s) nan)
-unfolding turnSine sub add neg
-not-finite true true = refl
-not-finite false true = refl
-not-finite s false = refl
+not-finite : (table : List ℕ) (s z : Bool) → turnSineBy table (cond z (inf s) nan) ≡ sub binary32 (cond z (inf s) nan) (cond z (inf s) nan)
+unfolding turnSineBy sub add neg
+not-finite table true true = refl
+not-finite table false true = refl
+not-finite table s false = refl
 
 module _ (b : ℕ) where
   -- the highest field
-  ones : field b ≡ 255 → turnSine (ofBits binary32 b) ≡ sub binary32 (ofBits binary32 b) (ofBits binary32 b)
+  ones : (table : List ℕ) → field b ≡ 255 → turnSineBy table (ofBits binary32 b) ≡ sub binary32 (ofBits binary32 b) (ofBits binary32 b)
   unfolding ofBits ofFields
-  ones e =
-      subst (λ (n : ℕ). let x = ofFields binary32 (leb (2 ^ 31) b) n (b % 2 ^ 23) in turnSine x ≡ sub binary32 x x) (sym e)
-      (not-finite (leb (2 ^ 31) b) (eqb (b % 2 ^ 23) 0))
+  ones table e =
+      subst (λ (n : ℕ). let x = ofFields binary32 (leb (2 ^ 31) b) n (b % 2 ^ 23) in turnSineBy table x ≡ sub binary32 x x) (sym e)
+      (not-finite table (leb (2 ^ 31) b) (eqb (b % 2 ^ 23) 0))
 
   -- any other
   value : field b < 255 → HasValue (ofBits binary32 b) (leb (2 ^ 31) b) (units (field b) (b % 2 ^ 23)) (2 ^ 149)
@@ -153,13 +154,13 @@ module _ (b : ℕ) where
   position-some l h = bits-position h ∙ ap (λ (n : ℕ). n % 2 ^ 32) (some (field b) (b % 2 ^ 23) (omega arith) h)
 
   -- below the field 158 the sine is the sine at the position
-  pub bits-under : field b < 158 → turnSine (ofBits binary32 b) ≡ sineAt (leb (2 ^ 31) b) (positionOf (ofBits binary32 b))
-  bits-under h = sine-under _ _ (pow-pos 149) (ofBits binary32 b) _ (value (omega arith)) (units-under (field b) (b % 2 ^ 23) h digits)
+  pub bits-under : (table : List ℕ) → field b < 158 → turnSineBy table (ofBits binary32 b) ≡ sineAt table (leb (2 ^ 31) b) (positionOf (ofBits binary32 b))
+  bits-under table h = sine-under _ _ (pow-pos 149) table (ofBits binary32 b) _ (value (omega arith)) (units-under (field b) (b % 2 ^ 23) h digits)
 
   -- from the field 158 on it is x - x, the infinities and NaN included
-  pub bits-over : 158 ≤ field b → turnSine (ofBits binary32 b) ≡ sub binary32 (ofBits binary32 b) (ofBits binary32 b)
-  bits-over h = go (decLt (field b) 255)
+  pub bits-over : (table : List ℕ) → 158 ≤ field b → turnSineBy table (ofBits binary32 b) ≡ sub binary32 (ofBits binary32 b) (ofBits binary32 b)
+  bits-over table h = go (decLt (field b) 255)
     where
-      go : Dec (field b < 255) → turnSine (ofBits binary32 b) ≡ sub binary32 (ofBits binary32 b) (ofBits binary32 b)
-      go (yes l) = sine-over _ _ (pow-pos 149) (ofBits binary32 b) _ (value l) (units-over (field b) (b % 2 ^ 23) h)
-      go (no l) = ones (omega arith)
+      go : Dec (field b < 255) → turnSineBy table (ofBits binary32 b) ≡ sub binary32 (ofBits binary32 b) (ofBits binary32 b)
+      go (yes l) = sine-over _ _ (pow-pos 149) table (ofBits binary32 b) _ (value l) (units-over (field b) (b % 2 ^ 23) h)
+      go (no l) = ones table (omega arith)

@@ -1,8 +1,10 @@
--- Laws of the turn sine for those who call it: it is NaN exactly at what is not finite, lies from -1 to 1, fits an `f32`, and
--- is odd below 2^31. What carries them is that S / 2^24 is exact and that rounding does not look at the sign. Assumes nothing.
+-- Laws of the turn sine for those who call it: by any table it is NaN exactly at what is not finite, fits an `f32`, and is odd
+-- below 2^31; by T it lies from -1 to 1. What carries them is that rounding does not look at the sign, and that by T S / 2^24
+-- is exact. Assumes nothing.
 use mathlib.Core.Path.{_≡_, refl, sym, ap, _∙_}
 use mathlib.Core.Logic.{_⊎_, inl, inr}
 use mathlib.Core.Bool.{Bool, true, false, not, _&&_, _||_}
+use mathlib.Core.List.{List}
 use Prim.Native.Nat.{ℕ, _+_, _*_, _^_, _≤_, _<_}
 use native.Mathlib.Nat.{eq-or-lt-of-le, le-trans, le-of-eq, mul-comm, mul-le-mul-right, le-of-mul-le-mul-right, mul-assoc, lt-of-le-of-lt}
 use native.Mathlib.Omega.{arith}
@@ -16,7 +18,8 @@ use lib.Ieee.Fits.{down-pos, nan-fits, round-fits, eq→eqb}
 use lib.Ieee.Scale.{finite}
 use Rattle.ieee.specs.Constants.{minusOne, minusZero, one, plusZero}
 use Rattle.ieee.proofs.Sign.{round-neg}
-use Rattle.sine.specs.Turn.{position, quarterOf, folded, height, sineAt, turnSine}
+use Rattle.sine.specs.Quarter.{quarter}
+use Rattle.sine.specs.Turn.{position, quarterOf, folded, height, sineAt, turnSineBy, turnSine}
 use Rattle.sine.proofs.Heights.{folded-le, height-le}
 
 -- finite, and of magnitude 2^31 or more: where document 01 gives 0.0 outright
@@ -25,52 +28,51 @@ beyond nan = false
 beyond (inf s) = false
 beyond (fin s m e) = leb (2 ^ 31 * down e) (m * up e)
 
--- ---- where the sine is NaN, and where it is 0.0 outright
+-- ---- where the sine is NaN, and where it is 0.0 outright; and it fits an `f32`
 
--- an infinity and NaN give NaN
-pub sine-not-finite : (x : Float) → T (not (finite x)) → turnSine x ≡ nan
-unfolding turnSine
-sine-not-finite nan h = refl
-sine-not-finite (inf s) h = refl
-sine-not-finite (fin s m e) h = absurd h
+module _ (table : List ℕ) where
+  -- an infinity and NaN give NaN
+  pub sine-not-finite : (x : Float) → T (not (finite x)) → turnSineBy table x ≡ nan
+  unfolding turnSineBy
+  sine-not-finite nan h = refl
+  sine-not-finite (inf s) h = refl
+  sine-not-finite (fin s m e) h = absurd h
 
--- from 2^31 on the sine is 0.0
-pub sine-beyond : (x : Float) → T (beyond x) → turnSine x ≡ plusZero
-unfolding turnSine
-sine-beyond nan h = absurd h
-sine-beyond (inf s) h = absurd h
-sine-beyond (fin s m e) h = rw (is-true (leb (2 ^ 31 * down e) (m * up e)) h, turnSine)
+  -- from 2^31 on the sine is 0.0
+  pub sine-beyond : (x : Float) → T (beyond x) → turnSineBy table x ≡ plusZero
+  unfolding turnSineBy
+  sine-beyond nan h = absurd h
+  sine-beyond (inf s) h = absurd h
+  sine-beyond (fin s m e) h = rw (is-true (leb (2 ^ 31 * down e) (m * up e)) h, turnSineBy)
 
--- elsewhere it is the sine at x's position
-pub sine-within : (s : Bool) (m : ℕ) (e : ℤ) → T (not (beyond (fin s m e))) → turnSine (fin s m e) ≡ sineAt s (position m e)
-unfolding turnSine
-sine-within s m e h = rw (is-false (leb (2 ^ 31 * down e) (m * up e)) h, turnSine)
+  -- elsewhere it is the sine at x's position
+  pub sine-within : (s : Bool) (m : ℕ) (e : ℤ) → T (not (beyond (fin s m e))) → turnSineBy table (fin s m e) ≡ sineAt table s (position m e)
+  unfolding turnSineBy
+  sine-within s m e h = rw (is-false (leb (2 ^ 31 * down e) (m * up e)) h, turnSineBy)
 
--- so what holds of 0.0 and of the sine at every position holds of the sine of every finite x
-of-finite : (P : Float → Type 0) → P plusZero → ((s : Bool) (p : ℕ) → P (sineAt s p)) → (s : Bool) (m : ℕ) (e : ℤ) → P (turnSine (fin s m e))
-unfolding turnSine
-of-finite P z f s m e = go (leb (2 ^ 31 * down e) (m * up e))
-  where
-    go : (b : Bool) → P (elim b [ true ↦ plusZero | false ↦ sineAt s (position m e) ])
-    go true = z
-    go false = f s (position m e)
+  -- so what holds of 0.0 and of the sine at every position holds of the sine of every finite x
+  of-finite : (P : Float → Type 0) → P plusZero → ((s : Bool) (p : ℕ) → P (sineAt table s p)) → (s : Bool) (m : ℕ) (e : ℤ) → P (turnSineBy table (fin s m e))
+  unfolding turnSineBy
+  of-finite P z f s m e = go (leb (2 ^ 31 * down e) (m * up e))
+    where
+      go : (b : Bool) → P (elim b [ true ↦ plusZero | false ↦ sineAt table s (position m e) ])
+      go true = z
+      go false = f s (position m e)
 
--- ---- it fits an `f32`
+  -- an `f32` holds the sine of every x
+  pub sine-fits : (x : Float) → T (fits binary32 (turnSineBy table x))
+  unfolding turnSineBy
+  sine-fits nan = nan-fits binary32
+  sine-fits (inf s) = nan-fits binary32
+  sine-fits (fin s m e) = of-finite (λ (y : Float). T (fits binary32 y)) zero-fits at-fits s m e
+    where
+      zero-fits : T (fits binary32 plusZero)
+      zero-fits = unfold fits in tt
 
--- an `f32` holds the sine of every x
-pub sine-fits : (x : Float) → T (fits binary32 (turnSine x))
-unfolding turnSine
-sine-fits nan = nan-fits binary32
-sine-fits (inf s) = nan-fits binary32
-sine-fits (fin s m e) = of-finite (λ (y : Float). T (fits binary32 y)) zero-fits at-fits s m e
-  where
-    zero-fits : T (fits binary32 plusZero)
-    zero-fits = unfold fits in tt
+      at-fits : (t : Bool) (p : ℕ) → T (fits binary32 (sineAt table t p))
+      at-fits t p = unfold sineAt in round-fits binary32 (unlike t (leb 2 (quarterOf p))) (height table (folded p)) (2 ^ 24)
 
-    at-fits : (t : Bool) (p : ℕ) → T (fits binary32 (sineAt t p))
-    at-fits t p = unfold sineAt in round-fits binary32 (unlike t (leb 2 (quarterOf p))) (height (folded p)) (2 ^ 24)
-
--- ---- it lies from -1 to 1
+-- ---- by T it lies from -1 to 1
 
 -- 2^24 / 2^24 is 1
 crest : (s : Bool) → HasValue (round binary32 s (2 ^ 24) (2 ^ 24)) s (2 ^ 24) (2 ^ 24)
@@ -129,11 +131,11 @@ pub sine-bounded : (x : Float) → T (finite x) → T (le minusOne (turnSine x))
 sine-bounded nan h = absurd h
 sine-bounded (inf s) h = absurd h
 sine-bounded (fin s m e) h =
-    of-finite (λ (y : Float). T (le minusOne y) × T (le y one)) (between plusZero false 0 1 (lit< tt) (lit≤ tt) (refl, refl)) at-bounded s m e
+    of-finite quarter (λ (y : Float). T (le minusOne y) × T (le y one)) (between plusZero false 0 1 (lit< tt) (lit≤ tt) (refl, refl)) at-bounded s m e
   where
-    at-bounded : (t : Bool) (p : ℕ) → T (le minusOne (sineAt t p)) × T (le (sineAt t p) one)
+    at-bounded : (t : Bool) (p : ℕ) → T (le minusOne (sineAt quarter t p)) × T (le (sineAt quarter t p) one)
     at-bounded t p =
-        let n = height (folded p) in
+        let n = height quarter (folded p) in
         let l : n ≤ 2 ^ 24 = height-le (folded p) (folded-le p) in
         unfold sineAt in between (round binary32 (unlike t (leb 2 (quarterOf p))) n (2 ^ 24)) _ n (2 ^ 24) (pow-pos 24) l (exact _ n l)
 
@@ -146,23 +148,26 @@ turned true false = refl
 turned false true = refl
 turned false false = refl
 
-at-neg : (s : Bool) (p : ℕ) → sineAt (not s) p ≡ neg (sineAt s p)
-unfolding sineAt
-at-neg s p = ap (λ (b : Bool). round binary32 b (height (folded p)) (2 ^ 24)) (turned s (leb 2 (quarterOf p))) ∙ round-neg binary32 (unlike s (leb 2 (quarterOf p))) (height (folded p)) (2 ^ 24)
+module _ (table : List ℕ) where
+  at-neg : (s : Bool) (p : ℕ) → sineAt table (not s) p ≡ neg (sineAt table s p)
+  unfolding sineAt
+  at-neg s p =
+      ap (λ (b : Bool). round binary32 b (height table (folded p)) (2 ^ 24)) (turned s (leb 2 (quarterOf p)))
+      ∙ round-neg binary32 (unlike s (leb 2 (quarterOf p))) (height table (folded p)) (2 ^ 24)
 
--- the sine of -x is the negated sine of x, but for the x of which document 01 gives 0.0 outright
-pub sine-neg : (x : Float) → T (not (beyond x)) → turnSine (neg x) ≡ neg (turnSine x)
-unfolding turnSine neg
-sine-neg nan h = refl
-sine-neg (inf s) h = refl
-sine-neg (fin s m e) h = sine-within (not s) m e h ∙ at-neg s (position m e) ∙ ap neg (sym (sine-within s m e h))
+  -- the sine of -x is the negated sine of x, but for the x of which document 01 gives 0.0 outright
+  pub sine-neg : (x : Float) → T (not (beyond x)) → turnSineBy table (neg x) ≡ neg (turnSineBy table x)
+  unfolding turnSineBy neg
+  sine-neg nan h = refl
+  sine-neg (inf s) h = refl
+  sine-neg (fin s m e) h = sine-within table (not s) m e h ∙ at-neg s (position m e) ∙ ap neg (sym (sine-within table s m e h))
 
--- and there it is not: 0.0 is not the negated 0.0
-pub sine-neg-beyond : (x : Float) → T (beyond x) → turnSine (neg x) ≡ neg (turnSine x) → ⊥
-unfolding neg
-sine-neg-beyond nan h e = absurd h
-sine-neg-beyond (inf s) h e = absurd h
-sine-neg-beyond (fin s m d) h e =
-    let f : plusZero ≡ minusZero = sym (sine-beyond (fin (not s) m d) h) ∙ e ∙ ap neg (sine-beyond (fin s m d) h) in
-    let z : _≡_ {A = ℕ} 0 1 = cc f in
-    omega arith
+  -- and there it is not: 0.0 is not the negated 0.0
+  pub sine-neg-beyond : (x : Float) → T (beyond x) → turnSineBy table (neg x) ≡ neg (turnSineBy table x) → ⊥
+  unfolding neg
+  sine-neg-beyond nan h e = absurd h
+  sine-neg-beyond (inf s) h e = absurd h
+  sine-neg-beyond (fin s m d) h e =
+      let f : plusZero ≡ minusZero = sym (sine-beyond table (fin (not s) m d) h) ∙ e ∙ ap neg (sine-beyond table (fin s m d) h) in
+      let z : _≡_ {A = ℕ} 0 1 = cc f in
+      omega arith

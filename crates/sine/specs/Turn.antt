@@ -1,7 +1,8 @@
 -- The turn sine of document 01, on the logic's account of IEEE 754: a value is `nan`, an infinity, or `fin s m e`, which is
--- m * 2 ^ e with the sign s. The rules are whole-number arithmetic; only the last step, S / 2^24, makes a float again, exactly.
+-- m * 2 ^ e with the sign s. The rules are whole-number arithmetic; only the last step, S / 2^24, makes a float again, rounded once.
 -- "C is the whole number nearest 2^62 / (2 pi). A turn is 2^32 positions, and positions wrap there." Assumes nothing.
 use mathlib.Core.Bool.{Bool, true, false}
+use mathlib.Core.List.{List}
 use Prim.Native.Nat.{ℕ, _+_, _-_, _*_, _/_, _%_, _^_}
 use lib.Dec.{leb, eqb}
 use lib.IntN.{ℤ}
@@ -28,22 +29,27 @@ unfoldable pub folded : ℕ → ℕ
 unfolding quarterOf
 folded p = elim (eqb (quarterOf p % 2) 1) [ true ↦ 2 ^ 30 - p % 2 ^ 30 | false ↦ p % 2 ^ 30 ]
 
--- "With i = floor(u / 2^20) and r = u mod 2^20, S = T[i] + floor((T[i+1] − T[i])·r / 2^20); at i = 1024, S = T[1024]"
-unfoldable pub height : ℕ → ℕ
-height u =
+-- "With i = floor(u / 2^20) and r = u mod 2^20, S = T[i] + floor((T[i+1] − T[i])·r / 2^20); at i = 1024, S = T[1024]", by any table T.
+-- A difference below zero counts as 0, as `-` on natural numbers has it; document 01's T rises.
+unfoldable pub height : List ℕ → ℕ → ℕ
+height table u =
     elim (eqb (u / 2 ^ 20) 1024) [
-      | true ↦ getD quarter 1024 0
-      | false ↦ getD quarter (u / 2 ^ 20) 0 + (getD quarter (u / 2 ^ 20 + 1) 0 - getD quarter (u / 2 ^ 20) 0) * (u % 2 ^ 20) / 2 ^ 20
+      | true ↦ getD table 1024 0
+      | false ↦ getD table (u / 2 ^ 20) 0 + (getD table (u / 2 ^ 20 + 1) 0 - getD table (u / 2 ^ 20) 0) * (u % 2 ^ 20) / 2 ^ 20
     ]
 
 -- "The result is S / 2^24, negated in the last two quarters, negated again if x has its sign bit"
-unfoldable pub sineAt : Bool → ℕ → Float
+unfoldable pub sineAt : List ℕ → Bool → ℕ → Float
 unfolding quarterOf folded height
-sineAt s p = round binary32 (unlike s (leb 2 (quarterOf p))) (height (folded p)) (2 ^ 24)
+sineAt table s p = round binary32 (unlike s (leb 2 (quarterOf p))) (height table (folded p)) (2 ^ 24)
 
 -- "x not finite gives NaN; |x| ≥ 2^31 gives 0.0"
-unfoldable pub turnSine : Float → Float
+unfoldable pub turnSineBy : List ℕ → Float → Float
 unfolding position sineAt
-turnSine nan = nan
-turnSine (inf s) = nan
-turnSine (fin s m e) = elim (leb (2 ^ 31 * down e) (m * up e)) [ true ↦ plusZero | false ↦ sineAt s (position m e) ]
+turnSineBy table nan = nan
+turnSineBy table (inf s) = nan
+turnSineBy table (fin s m e) = elim (leb (2 ^ 31 * down e) (m * up e)) [ true ↦ plusZero | false ↦ sineAt table s (position m e) ]
+
+-- the turn sine: that by T of document 01
+abbrev pub turnSine : Float → Float
+turnSine = turnSineBy quarter

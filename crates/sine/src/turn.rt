@@ -1,14 +1,13 @@
-// The turn sine: whole numbers from the bits of x to S, and one exact product that makes a float.
+// The turn sine: whole numbers from the bits of x to S, and S / 2^24 rounded once.
 // `sine_by` reads a table that its caller made once and lends; `sine` makes its own.
 
 use crate::quarter;
 ghost use mathlib.Core.Path.{_≡_};
-ghost use Prim.Native.Nat.{_+_, _*_, _/_, _%_, _^_, _≤_, _<_};
+ghost use Prim.Native.Nat.{_+_, _-_, _*_, _/_, _%_, _^_, _≤_, _<_};
 ghost use lib.Dec.{leb};
-ghost use lib.IntN.{negsuc};
-ghost use lib.Ieee.{binary32, ofBits, fin, unlike};
-ghost use Rattle.sine.specs.Quarter.{quarter};
-ghost use Rattle.sine.specs.Turn.{C, quarterOf, folded, height, turnSine};
+ghost use lib.IntN.{pos, negsuc};
+ghost use lib.Ieee.{binary32, ofBits, ofInt, fin, unlike};
+ghost use Rattle.sine.specs.Turn.{C, quarterOf, folded, height, turnSineBy, turnSine};
 ghost use Rattle.sine.specs.Phase.{positionOf};
 
 // The sine of x radians, the same bits on every machine: NaN where x is not finite, and 0.0 where |x|
@@ -20,10 +19,10 @@ pub fn sine(x: f32) -> f32
     sine_by(&table, x)
 }
 
-// The same by a table that the caller made once with `quarter::table`, for one that takes many sines.
+// The sine by the heights of a lent table, for one that takes many: by `quarter::table` it is `sine`.
+// Where a table falls the height stays at the higher entry.
 pub fn sine_by(table: &[u32; 1025], x: f32) -> f32
-    requires { ⌜ now table ≡ quarter ⌝ }
-    ensures { λ r. ⌜ r ≡ turnSine x ⌝ }
+    ensures { λ r. ⌜ r ≡ turnSineBy (now (table .entry)) x ⌝ }
 {
     if x != x {
         return x;
@@ -35,7 +34,7 @@ pub fn sine_by(table: &[u32; 1025], x: f32) -> f32
     }
     let p = position(bits);
     let s = height_by(table, fold(p));
-    s as f32 * unit(bits, p)
+    nearest(s) * unit(bits, p)
 }
 
 // The position of the float x whose bits these are. With m for its 24 digits and e for the exponent's
@@ -81,16 +80,37 @@ fn fold(p: u32) -> u32
 
 // S at u: the table's entry below u, and the part of the way from there to the next entry.
 fn height_by(table: &[u32; 1025], u: u32) -> u32
-    requires { ⌜ (now table ≡ quarter) × (u ≤ 2 ^ 30) ⌝ }
-    ensures { λ r. ⌜ r ≡ height u ⌝ }
+    requires { ⌜ u ≤ 2 ^ 30 ⌝ }
+    ensures { λ r. ⌜ r ≡ height (now (table .entry)) u ⌝ }
 {
     let i = (u / 0x10_0000) as usize;
     if i == 1024 {
         return table[1024];
     }
-    let from = table[i];
-    let rise = (table[i + 1] - from) as u64 * ((u % 0x10_0000) as u64);
+    partway(table[i], table[i + 1], u % 0x10_0000)
+}
+
+// The height r / 2^20 of the way from an entry to the next. No way leads down: where the next is lower,
+// the height stays.
+fn partway(from: u32, next: u32, r: u32) -> u32
+    requires { ⌜ r ≤ 2 ^ 20 ⌝ }
+    ensures { λ s. ⌜ s ≡ from + (next - from) * r / 2 ^ 20 ⌝ }
+{
+    if next < from {
+        return from;
+    }
+    let rise = (next - from) as u64 * (r as u64);
     from + (rise / 0x10_0000) as u32
+}
+
+// S as an f32. Up to 2^24, where T ends, one conversion is exact and costs least.
+fn nearest(s: u32) -> f32
+    ensures { λ r. ⌜ r ≡ ofInt binary32 (pos s) ⌝ }
+{
+    if s <= 0x100_0000 {
+        return s as f32;
+    }
+    std::num::nearest_u32_to_f32(s)
 }
 
 // 2^-24 with the result's sign: x's sign bit, turned in the last two quarters.

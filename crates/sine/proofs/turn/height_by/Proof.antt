@@ -1,9 +1,7 @@
--- `height_by` reads the table in place. Below the crest a `Step` bounds all that it works out: the two entries rise, and the
--- part of the way between them stays below the upper one. Assumes nothing.
-use mathlib.Core.Path.{sym}
-use native.Mathlib.Omega.{arith}
-use Rattle.sine.proofs.Heights.{StepAt, step, height-last, height-between}
+-- `height_by` reads the table in place: the definition's two cases, which its test takes in turn. Assumes nothing.
+use mathlib.Core.Path.{sym, _∙_}
 use borrow.Author.Needs.{needs}
+use Rattle.sine.proofs.Heights.{height-last, height-between}
 use Rattle.sine.proofs.turn.height_by.Statement.{statement}
 use Rattle.sine.proofs.turn.height_by.Tie as tie
 
@@ -14,47 +12,28 @@ element-copy-out-result : tie.Need-element-copy-out-result
 element-copy-out-result c = search needs
 
 returns : tie.Need-returns
-returns c = rw (c .before .before .pre .0) (sym (height-last _ (c .before .if1 .taken)))
+returns c = sym (height-last _ _ (c .before .if1 .taken))
 
-mul-from : tie.Need-mul-from
-mul-from c = search needs
+mul-partway : tie.Need-mul-partway
+mul-partway c = search needs
 
-element-copy-out-from : tie.Need-element-copy-out-from
-element-copy-out-from c = search needs
+element-copy-out-partway : tie.Need-element-copy-out-partway
+element-copy-out-partway c = search needs
 
-add-rise : tie.Need-add-rise
-add-rise c = search needs
+add-partway : tie.Need-add-partway
+add-partway c = search needs
 
-mul-rise : tie.Need-mul-rise
-mul-rise c = search needs
+mul-partway-2 : tie.Need-mul-partway-2
+mul-partway-2 c = search needs
 
-element-copy-out-rise : tie.Need-element-copy-out-rise
-element-copy-out-rise c = search needs
+element-copy-out-partway-2 : tie.Need-element-copy-out-partway-2
+element-copy-out-partway-2 c = search needs
 
--- what is known once both entries are read
-here : (c : tie.After-rise) → StepAt (c .before .before .before .args .table .now) (c .before .before .before .args .u)
-here c = step _ _ (c .before .before .before .pre .0) (c .before .before .before .pre .1) (c .before .before .if1 .left)
-
-sub-rise : tie.Need-sub-rise
-sub-rise c = here c .rises
-
-cast-rise : tie.Need-cast-rise
-cast-rise c = omega (arith, here c)
-
-cast-rise-2 : tie.Need-cast-rise-2
-cast-rise-2 c = search needs
-
-mul-rise-2 : tie.Need-mul-rise-2
-mul-rise-2 c = omega (arith, here c)
-
-cast-result : tie.Need-cast-result
-cast-result c = omega (arith, here c)
-
-add-result : tie.Need-add-result
-add-result c = omega (arith, here c)
+partway-requires : tie.Need-partway-requires
+partway-requires c κs = search needs
 
 returns-2 : tie.Need-returns-2
-returns-2 c = rw (c .before .before .before .pre .0) (sym (height-between _ (c .before .before .if1 .left)))
+returns-2 c = c .partway .ensures ∙ sym (height-between _ _ (c .before .before .before .if1 .left))
 
 pub height-by-spec : {M : Type 1} → statement M
 height-by-spec =
@@ -63,15 +42,10 @@ height-by-spec =
     cast-i
     element-copy-out-result
     returns
-    mul-from
-    element-copy-out-from
-    add-rise
-    mul-rise
-    element-copy-out-rise
-    sub-rise
-    cast-rise
-    cast-rise-2
-    mul-rise-2
-    cast-result
-    add-result
+    mul-partway
+    element-copy-out-partway
+    add-partway
+    mul-partway-2
+    element-copy-out-partway-2
+    partway-requires
     returns-2)
