@@ -19,7 +19,7 @@ pub struct Operator {
 }
 
 // How loud an operator is at one time of a note: a factor, or past every stage of its envelope.
-pub enum Level {
+pub(crate) enum Level {
     Held(f32),
     Past,
 }
