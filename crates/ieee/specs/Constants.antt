@@ -12,6 +12,10 @@ plusZero = fin false 0 (pos 0)
 abbrev pub minusZero : Float
 minusZero = fin true 0 (pos 0)
 
+-- 0.5: "amplitude 0.5" at the start
+abbrev pub half : Float
+half = fin false 1 (negsuc 0)
+
 -- 1.0
 abbrev pub one : Float
 one = fin false 1 (pos 0)

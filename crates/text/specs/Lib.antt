@@ -1,3 +1,6 @@
 pub mod Blanks
+pub mod Characters
 pub mod Fronts
+pub mod Lines
 pub mod Quoted
+pub mod Tokens

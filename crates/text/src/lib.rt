@@ -2,3 +2,4 @@
 // end of a text has nothing after it.
 
 pub mod blanks;
+pub mod characters;

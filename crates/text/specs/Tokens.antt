@@ -1,0 +1,40 @@
+-- Tokens: what blanks separate. Document 01: "first token the name, the rest the body; under two tokens it is skipped". Assumes nothing.
+use mathlib.Core.Bool.{Bool, true, false}
+use mathlib.Core.List.{List, [], _∷_}
+use mathlib.Core.Option.{Option, none, some}
+use Prim.Native.Nat.{ℕ}
+use Rattle.text.specs.Blanks.{isBlank, isInk}
+use Rattle.text.specs.Fronts.{front, after}
+
+-- the tokens of a text that goes on inside a token, or not: one begins at each ink that stands at the start or behind a blank
+unfoldable pub tokensFrom : Bool → List ℕ → List (List ℕ)
+unfolding front isBlank isInk
+tokensFrom inside [] = []
+tokensFrom inside (b ∷ s) =
+    elim (isBlank b) [
+      | true ↦ tokensFrom false s
+      | false ↦ elim inside [ true ↦ tokensFrom true s | false ↦ front isInk (b ∷ s) ∷ tokensFrom true s ]
+    ]
+
+unfoldable pub tokensOf : List ℕ → List (List ℕ)
+unfolding tokensFrom
+tokensOf s = tokensFrom false s
+
+-- the first token of a text, empty where there is none, and what follows it
+unfoldable pub firstToken : List ℕ → List ℕ
+unfolding front after isBlank isInk
+firstToken s = front isInk (after isBlank s)
+
+unfoldable pub afterToken : List ℕ → List ℕ
+unfolding after isBlank isInk
+afterToken s = after isInk (after isBlank s)
+
+-- a line of two tokens or more: its name, and the rest, its body
+pub record Named : Type 0 where
+  pub name : List ℕ
+  pub body : List ℕ
+
+-- "under two tokens" there is none
+unfoldable pub namedOf : List ℕ → Option Named
+unfolding after isBlank firstToken afterToken
+namedOf l = elim (after isBlank (afterToken l)) [ [] ↦ none | b ∷ s ↦ some (record { name = firstToken l; body = afterToken l }) ]
