@@ -1,0 +1,4 @@
+pub mod Bounds
+pub mod Environment
+pub mod Keys
+pub mod Ranges

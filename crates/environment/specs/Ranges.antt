@@ -1,0 +1,53 @@
+-- The values that commands and directives take, with their refusals in order: "`o`, `l`, `t`: 7, 8."; "Decimal command: 7, 19, 8." Assumes nothing.
+use mathlib.Core.Bool.{_||_}
+use mathlib.Core.Option.{Option, none, some}
+use Prim.Native.Nat.{ℕ}
+use lib.Ieee.{Float, lt}
+use Rattle.ieee.specs.Constants.{plusZero, one}
+use Rattle.number.specs.declared.digits.Int.{Int}
+use Rattle.number.specs.declared.digits.Int.the-variants.{Number, Absent}
+use Rattle.number.specs.declared.decimal.Decimal.{Decimal}
+use Rattle.number.specs.declared.decimal.Decimal.the-variants.{Value, Unreadable, TooLong}
+use Rattle.sheet.specs.Refusals.{Outcome, going, refused, _>>=_, _>>_, refuse_on_unless_, refuse_on_if_, refuse_on_without_}
+use Rattle.environment.specs.declared.range.RangedValue.{RangedValue}
+use Rattle.environment.specs.declared.range.RangedValue.the-variants as RangedValue
+use Rattle.environment.specs.declared.range.RangedAmplitude.{RangedAmplitude}
+use Rattle.environment.specs.declared.range.RangedAmplitude.the-variants as RangedAmplitude
+use Rattle.environment.specs.Bounds.{Bounds, within}
+
+-- "a digit run, not found if absent or over 4,294,967,295"
+unfoldable pub digitRun : Int → Option ℕ
+digitRun (Number v next) = some v
+digitRun Absent = none
+
+-- a digit run within bounds, on a line: "`o`, `l`, `t`: 7, 8."
+unfoldable pub ranged : ℕ → Bounds → Int → Outcome ℕ
+unfolding digitRun
+ranged line b n = do
+  v ← refuse 7 on line without (digitRun n)
+  refuse 8 on line unless (within b v)
+  going v
+
+-- a decimal that is there: "Decimal command: 7, 19"
+unfoldable pub readable : ℕ → Decimal → Outcome Float
+readable line (Value x next) = going x
+readable line Unreadable = refused 7 line
+readable line TooLong = refused 19 line
+
+-- "`v` takes a decimal from 0 to 1."; "Decimal command: 7, 19, 8."
+unfoldable pub loudness : ℕ → Decimal → Outcome Float
+unfolding readable
+loudness line d = do
+  x ← readable line d
+  refuse 8 on line if (lt x plusZero || lt one x)
+  going x
+
+-- ---- answers: what each case stands for, on a line
+
+unfoldable pub valueOutcome : ℕ → RangedValue → Outcome ℕ
+valueOutcome line (RangedValue.Value v) = going v
+valueOutcome line (RangedValue.Refused n) = refused n line
+
+unfoldable pub amplitudeOutcome : ℕ → RangedAmplitude → Outcome Float
+amplitudeOutcome line (RangedAmplitude.Amplitude x) = going x
+amplitudeOutcome line (RangedAmplitude.Refused n) = refused n line

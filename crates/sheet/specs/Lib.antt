@@ -1,0 +1,2 @@
+pub mod Capacities
+pub mod Refusals

@@ -1,0 +1,4 @@
+// A sheet as it is read and handed to the renderer: notes and instruments in counted arrays.
+
+pub mod note;
+pub mod sheet;
