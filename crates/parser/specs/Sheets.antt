@@ -1,0 +1,229 @@
+-- The reading of a sheet, as document 01 has it: its lines from the top, what each kind of line does, and the end. "Order: 1, 2, then lines from the top;
+-- the first refusal ends the reading; at the end 25, 26, 27." Assumes nothing.
+use mathlib.Core.Bool.{Bool, true, false, _&&_}
+use mathlib.Core.List.{List, [], _∷_, _++_, map}
+use mathlib.Core.Option.{Option, none, some}
+use Prim.Native.Nat.{ℕ, zero, suc, _+_, max}
+use lib.Dec.{leb, ltb, eqb}
+use lib.ListN.{length, getD}
+use lib.Ieee.{Float, nan}
+use Rattle.ieee.specs.Constants.{plusZero, one}
+use Rattle.text.specs.Characters.{same, rowOf}
+use Rattle.text.specs.Lines.{linesOf}
+use Rattle.text.specs.Tokens.{Named, namedOf, firstToken}
+use Rattle.tone.specs.Time.{lengthOf}
+use Rattle.instrument.specs.Lines.{Line, releaseOf}
+use Rattle.sheet.specs.declared.note.Note.{Note}
+use Rattle.sheet.specs.Capacities.{sourceMost, partsMost, macrosMost, instrumentsMost, sheetMost}
+use Rattle.sheet.specs.Refusals.{Outcome, going, _>>=_, _>>_, refuse_on_unless_, refuse_on_if_, refuse_on_without_}
+use Rattle.environment.specs.declared.environment.Environment.{Environment}
+use Rattle.environment.specs.Environment.{atTheStart}
+use Rattle.operators.specs.OperatorLines.{operatorLines, operatorsRead}
+use Rattle.part.specs.Body.{Part, Macro, Book, bodyRead, macroNamed, placeOf}
+use Rattle.part.specs.Notes.{soundingOf, samplesOf}
+use Rattle.parser.specs.Directives.{changeOf}
+
+-- ---- what has been read so far
+
+-- a part and its name
+pub record NamedPart : Type 0 where
+  pub name : List ℕ
+  pub part : Part
+
+-- the starting environment; the parts in order of first appearance; the macros; the names of the instruments from 1 on, and the operator lines of the
+-- instruments from 0 on; and the steps
+pub record Read : Type 0 where
+  pub start : Environment
+  pub parts : List NamedPart
+  pub macros : List Macro
+  pub names : List (List ℕ)
+  pub instruments : List (List Line)
+  pub steps : ℕ
+
+abbrev pub readOf : Environment → List NamedPart → List Macro → List (List ℕ) → List (List Line) → ℕ → Read
+readOf e ps ms ns is k = record { start = e; parts = ps; macros = ms; names = ns; instruments = is; steps = k }
+
+-- "instrument 0 (`1 1 0 0 1 0`)"
+abbrev pub plain : List Line
+plain =
+    record {
+      indent = 0;
+      op = record { amplitude = one; freqratio = one; attack = plusZero; decay = plusZero; sustain = one; release = plusZero; feedback = 0 };
+    } ∷ []
+
+-- nothing is read yet
+unfoldable pub nothingRead : Read
+unfolding atTheStart
+nothingRead = readOf atTheStart [] [] [] (plain ∷ []) 0
+
+unfoldable pub bookOf : ℕ → Read → Book
+unfolding releaseOf
+bookOf rate r = record { macros = r .macros; names = r .names; releases = map releaseOf (r .instruments); rate = rate }
+
+unfoldable pub isNone : {A : Type 0} → Option A → Bool
+isNone none = true
+isNone (some x) = false
+
+-- ---- instruments
+
+-- "`@` opens an instrument, its name the entire line, trailing blanks included."; "Instrument header: 3, 21."
+unfoldable pub headerRead : ℕ → List ℕ → List (List ℕ) → Read → Outcome Read
+unfolding isNone placeOf operatorLines operatorsRead
+headerRead line name below r = do
+  refuse 3 on line unless (isNone (placeOf name 1 (r .names)))
+  refuse 21 on line unless (ltb (length (r .instruments)) instrumentsMost)
+  os ← operatorsRead none (line + 1) 0 (operatorLines below)
+  going (readOf (r .start) (r .parts) (r .macros) (r .names ++ (name ∷ [])) (r .instruments ++ (os ∷ [])) (r .steps))
+
+-- ---- directives
+
+unfoldable pub everyPart : (Environment → Environment) → List NamedPart → List NamedPart
+everyPart f [] = []
+everyPart f (p ∷ ps) =
+    record { name = p .name; part = record { env = f (p .part .env); notes = p .part .notes; loops = p .part .loops } } ∷ everyPart f ps
+
+-- "A directive changes the starting environment and every existing part's."; "Directive: 7 for tokens, 6, then value."
+unfoldable pub directiveRead : ℕ → List ℕ → Read → Outcome Read
+unfolding namedOf firstToken changeOf everyPart
+directiveRead line l r = do
+  n ← refuse 7 on line without (namedOf l)
+  f ← changeOf line (n .name) (firstToken (n .body))
+  going (readOf (f (r .start)) (everyPart f (r .parts)) (r .macros) (r .names) (r .instruments) (r .steps))
+
+-- ---- macros
+
+-- "Macro line: 5, 4, 21."
+unfoldable pub macroRead : ℕ → List ℕ → Read → Outcome Read
+unfolding namedOf isNone macroNamed
+macroRead line l r = do
+  n ← refuse 5 on line without (namedOf l)
+  refuse 4 on line unless (isNone (macroNamed (n .name) (r .macros)))
+  refuse 21 on line unless (ltb (length (r .macros)) macrosMost)
+  let m : Macro = record { name = n .name; body = n .body; line = line }
+  going (readOf (r .start) (r .parts) (r .macros ++ (m ∷ [])) (r .names) (r .instruments) (r .steps))
+
+-- ---- parts
+
+unfoldable pub partNamed : List ℕ → List NamedPart → Option Part
+unfolding same
+partNamed name [] = none
+partNamed name (p ∷ ps) = elim (same name (p .name)) [ true ↦ some (p .part) | false ↦ partNamed name ps ]
+
+-- the parts with this part for the name, in its place or, where the name is new, last
+unfoldable pub withPartNamed : List ℕ → Part → List NamedPart → List NamedPart
+unfolding same
+withPartNamed name v [] = record { name = name; part = v } ∷ []
+withPartNamed name v (p ∷ ps) =
+    elim (same name (p .name)) [ true ↦ record { name = name; part = v } ∷ ps | false ↦ p ∷ withPartNamed name v ps ]
+
+-- how many notes the parts of other names have
+unfoldable pub notesBeside : List ℕ → List NamedPart → ℕ
+unfolding same
+notesBeside name [] = 0
+notesBeside name (p ∷ ps) =
+    elim (same name (p .name)) [ true ↦ notesBeside name ps | false ↦ length (p .part .notes) + notesBeside name ps ]
+
+-- the part of a name, or a new one with the starting environment: "New part: 21 before its body."
+unfoldable pub partOf : ℕ → Read → Option Part → Outcome Part
+partOf line r (some v) = going v
+partOf line r none = do
+  refuse 21 on line unless (ltb (length (r .parts)) partsMost)
+  going (record { env = r .start; notes = []; loops = [] })
+
+-- "All else is a part line: first token the name, the rest the body; under two tokens it is skipped."
+unfoldable pub partRead : ℕ → ℕ → Option Named → Read → Outcome Read
+unfolding partOf partNamed bodyRead bookOf notesBeside withPartNamed
+partRead rate line none r = going r
+partRead rate line (some n) r = do
+  v ← partOf line r (partNamed (n .name) (r .parts))
+  p ← bodyRead (bookOf rate r) line (n .body) (record { part = v; others = notesBeside (n .name) (r .parts); steps = r .steps })
+  going (readOf (r .start) (withPartNamed (n .name) (p .part) (r .parts)) (r .macros) (r .names) (r .instruments) (p .steps))
+
+-- ---- lines
+
+-- the kinds of line
+pub data Kind : Type 0 where
+  skipped headerLine directiveLine macroLine partLine : Kind
+
+-- "An empty line or one starting with `;` is skipped. `@` opens an instrument .. `#` is a directive, `!` a macro. All else is a part line"
+unfoldable pub kindOf : List ℕ → Kind
+unfolding rowOf
+kindOf [] = skipped
+kindOf (b ∷ s) = rowOf b partLine ((";", skipped) ∷ ("@", headerLine) ∷ ("#", directiveLine) ∷ ("!", macroLine) ∷ [])
+
+-- what a line of a kind does, with the lines below it
+unfoldable pub lineRead : ℕ → Kind → ℕ → List ℕ → List (List ℕ) → Read → Outcome Read
+unfolding headerRead directiveRead macroRead partRead namedOf
+lineRead rate skipped line l below r = going r
+lineRead rate headerLine line l below r = headerRead line l below r
+lineRead rate directiveLine line l below r = directiveRead line l r
+lineRead rate macroLine line l below r = macroRead line l r
+lineRead rate partLine line l below r = partRead rate line (namedOf l) r
+
+-- how many of the lines below it a line takes
+unfoldable pub takenBy : Kind → List (List ℕ) → ℕ
+unfolding operatorLines
+takenBy skipped below = 0
+takenBy headerLine below = length (operatorLines below)
+takenBy directiveLine below = 0
+takenBy macroLine below = 0
+takenBy partLine below = 0
+
+-- the lines from a given one on, of which the first k are passed over, since they belong to the instrument above them
+unfoldable pub linesRead : ℕ → ℕ → ℕ → List (List ℕ) → Read → Outcome Read
+unfolding kindOf lineRead takenBy
+linesRead rate k line [] r = going r
+linesRead rate (suc k) line (l ∷ ls) r = linesRead rate k (line + 1) ls r
+linesRead rate zero line (l ∷ ls) r = do
+  q ← lineRead rate (kindOf l) line l ls r
+  linesRead rate (takenBy (kindOf l) ls) (line + 1) ls q
+
+-- ---- the end
+
+-- a loop is open in some part
+unfoldable pub anyOpen : List NamedPart → Bool
+anyOpen [] = false
+anyOpen (p ∷ ps) = elim (p .part .loops) [ [] ↦ anyOpen ps | l ∷ ls ↦ true ]
+
+-- "A note starts where the sums of ceil(duration·44100) before it end, and sounds ceil((duration + release)·44100) samples"; the largest end of the
+-- notes of a part, from a start on
+unfoldable pub endOf : ℕ → List Float → ℕ → List Note → ℕ
+unfolding lengthOf soundingOf samplesOf
+endOf rate releases start [] = 0
+endOf rate releases start (n ∷ ns) =
+    max
+    (start + samplesOf (soundingOf rate (getD releases (n .instrument) nan) n))
+    (endOf rate releases (start + samplesOf (lengthOf rate (n .duration))) ns)
+
+-- "The sheet's length is the largest end of a sounding note, 0 without notes."
+unfoldable pub lengthFrom : ℕ → List Float → List NamedPart → ℕ
+unfolding endOf
+lengthFrom rate releases [] = 0
+lengthFrom rate releases (p ∷ ps) = max (endOf rate releases 0 (p .part .notes)) (lengthFrom rate releases ps)
+
+unfoldable pub lengthRead : ℕ → Read → ℕ
+unfolding lengthFrom releaseOf
+lengthRead rate r = lengthFrom rate (map releaseOf (r .instruments)) (r .parts)
+
+-- "at the end 25, 26, 27"
+unfoldable pub ended : ℕ → Read → Outcome Read
+unfolding anyOpen lengthRead
+ended rate r = do
+  refuse 25 on 0 if (eqb (length (r .parts)) 0)
+  refuse 26 on 0 if (anyOpen (r .parts))
+  refuse 27 on 0 unless (leb (lengthRead rate r) sheetMost)
+  going r
+
+-- "a byte of 128 or more" is 2
+unfoldable pub allBelow128 : List ℕ → Bool
+allBelow128 [] = true
+allBelow128 (b ∷ s) = ltb b 128 && allBelow128 s
+
+-- what a source is read as, its notes counted at a rate
+unfoldable pub sheetRead : ℕ → List ℕ → Outcome Read
+unfolding allBelow128 linesOf linesRead nothingRead ended
+sheetRead rate source = do
+  refuse 1 on 0 unless (leb (length source) sourceMost)
+  refuse 2 on 0 unless (allBelow128 source)
+  r ← linesRead rate 0 1 (linesOf source) nothingRead
+  ended rate r

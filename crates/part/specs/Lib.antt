@@ -1,0 +1,4 @@
+pub mod Body
+pub mod Items
+pub mod Loops
+pub mod Notes
