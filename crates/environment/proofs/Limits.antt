@@ -16,7 +16,7 @@ use Rattle.environment.specs.declared.range.RangedValue.the-variants as 
 use Rattle.environment.specs.declared.range.RangedAmplitude.the-variants as RangedAmplitude
 use Rattle.environment.specs.Bounds.{bounds}
 use Rattle.environment.specs.Environment.{withOctave, octaveUp, octaveDown}
-use Rattle.environment.specs.Ranges.{ranged, loudness, valueOutcome, amplitudeOutcome}
+use Rattle.environment.specs.Ranges.{digitRun, amountOf, ranged, loudness, valueOutcome, amplitudeOutcome}
 
 -- ---- octaves
 
@@ -39,43 +39,43 @@ down-stopped e h = ap (λ (o : ℕ). withOctave o e) (omega arith)
 -- ---- digit runs
 
 module _ (n : Int) (least most : ℕ) where
-  pub value-none : n ≡ Absent → (line : ℕ) → valueOutcome line (RangedValue.Refused 7) ≡ ranged line (bounds least most) n
-  unfolding valueOutcome ranged _>>=_ refuse_on_without_
+  pub value-none : n ≡ Absent → (line : ℕ) → valueOutcome line (RangedValue.Refused 7) ≡ ranged line (bounds least most) (digitRun n)
+  unfolding valueOutcome digitRun ranged _>>=_ refuse_on_without_
   value-none e line = rw e
 
   module _ (v next : ℕ) (e : n ≡ Number v next) where
-    pub value-low : v < least → (line : ℕ) → valueOutcome line (RangedValue.Refused 8) ≡ ranged line (bounds least most) n
-    unfolding valueOutcome ranged _>>=_ _>>_ refuse_on_without_ refuse_on_unless_
+    pub value-low : v < least → (line : ℕ) → valueOutcome line (RangedValue.Refused 8) ≡ ranged line (bounds least most) (digitRun n)
+    unfolding valueOutcome digitRun ranged _>>=_ _>>_ refuse_on_without_ refuse_on_unless_
     value-low h line = rw (e, lt-leb least v h)
 
-    pub value-high : least ≤ v → most < v → (line : ℕ) → valueOutcome line (RangedValue.Refused 8) ≡ ranged line (bounds least most) n
-    unfolding valueOutcome ranged _>>=_ _>>_ refuse_on_without_ refuse_on_unless_
+    pub value-high : least ≤ v → most < v → (line : ℕ) → valueOutcome line (RangedValue.Refused 8) ≡ ranged line (bounds least most) (digitRun n)
+    unfolding valueOutcome digitRun ranged _>>=_ _>>_ refuse_on_without_ refuse_on_unless_
     value-high g h line = rw (e, le-leb least v g, lt-leb v most h)
 
-    pub value-within : least ≤ v → v ≤ most → (line : ℕ) → valueOutcome line (RangedValue.Value v) ≡ ranged line (bounds least most) n
-    unfolding valueOutcome ranged _>>=_ _>>_ refuse_on_without_ refuse_on_unless_
+    pub value-within : least ≤ v → v ≤ most → (line : ℕ) → valueOutcome line (RangedValue.Value v) ≡ ranged line (bounds least most) (digitRun n)
+    unfolding valueOutcome digitRun ranged _>>=_ _>>_ refuse_on_without_ refuse_on_unless_
     value-within g h line = rw (e, le-leb least v g, le-leb v most h)
 
 -- ---- decimals
 
 module _ (d : Decimal) where
-  pub amplitude-none : d ≡ Unreadable → (line : ℕ) → amplitudeOutcome line (RangedAmplitude.Refused 7) ≡ loudness line d
-  unfolding amplitudeOutcome loudness _>>=_
+  pub amplitude-none : d ≡ Unreadable → (line : ℕ) → amplitudeOutcome line (RangedAmplitude.Refused 7) ≡ loudness line (amountOf d)
+  unfolding amplitudeOutcome amountOf loudness _>>=_
   amplitude-none e line = rw e
 
-  pub amplitude-long : d ≡ TooLong → (line : ℕ) → amplitudeOutcome line (RangedAmplitude.Refused 19) ≡ loudness line d
-  unfolding amplitudeOutcome loudness _>>=_
+  pub amplitude-long : d ≡ TooLong → (line : ℕ) → amplitudeOutcome line (RangedAmplitude.Refused 19) ≡ loudness line (amountOf d)
+  unfolding amplitudeOutcome amountOf loudness _>>=_
   amplitude-long e line = rw e
 
   module _ (x : Float) (next : ℕ) (e : d ≡ Value x next) where
-    pub amplitude-low : lt x plusZero ≡ true → (line : ℕ) → amplitudeOutcome line (RangedAmplitude.Refused 8) ≡ loudness line d
-    unfolding amplitudeOutcome loudness _>>=_ _>>_ refuse_on_if_
+    pub amplitude-low : lt x plusZero ≡ true → (line : ℕ) → amplitudeOutcome line (RangedAmplitude.Refused 8) ≡ loudness line (amountOf d)
+    unfolding amplitudeOutcome amountOf loudness _>>=_ _>>_ refuse_on_if_
     amplitude-low h line = rw (e, h)
 
-    pub amplitude-high : lt x plusZero ≡ false → lt one x ≡ true → (line : ℕ) → amplitudeOutcome line (RangedAmplitude.Refused 8) ≡ loudness line d
-    unfolding amplitudeOutcome loudness _>>=_ _>>_ refuse_on_if_
+    pub amplitude-high : lt x plusZero ≡ false → lt one x ≡ true → (line : ℕ) → amplitudeOutcome line (RangedAmplitude.Refused 8) ≡ loudness line (amountOf d)
+    unfolding amplitudeOutcome amountOf loudness _>>=_ _>>_ refuse_on_if_
     amplitude-high g h line = rw (e, g, h)
 
-    pub amplitude-within : lt x plusZero ≡ false → lt one x ≡ false → (line : ℕ) → amplitudeOutcome line (RangedAmplitude.Amplitude x) ≡ loudness line d
-    unfolding amplitudeOutcome loudness _>>=_ _>>_ refuse_on_if_
+    pub amplitude-within : lt x plusZero ≡ false → lt one x ≡ false → (line : ℕ) → amplitudeOutcome line (RangedAmplitude.Amplitude x) ≡ loudness line (amountOf d)
+    unfolding amplitudeOutcome amountOf loudness _>>=_ _>>_ refuse_on_if_
     amplitude-within g h line = rw (e, g, h)

@@ -21,24 +21,33 @@ digitRun (Number v next) = some v
 digitRun Absent = none
 
 -- a digit run within bounds, on a line: "`o`, `l`, `t`: 7, 8."
-unfoldable pub ranged : ℕ → Bounds → Int → Outcome ℕ
-unfolding digitRun
+unfoldable pub ranged : ℕ → Bounds → Option ℕ → Outcome ℕ
 ranged line b n = do
-  v ← refuse 7 on line without (digitRun n)
+  v ← refuse 7 on line without n
   refuse 8 on line unless (within b v)
   going v
 
+-- a decimal without the place after it
+pub data Amount : Type 0 where
+  amount : Float → Amount
+  unreadable tooLong : Amount
+
+unfoldable pub amountOf : Decimal → Amount
+amountOf (Value x next) = amount x
+amountOf Unreadable = unreadable
+amountOf TooLong = tooLong
+
 -- a decimal that is there: "Decimal command: 7, 19"
-unfoldable pub readable : ℕ → Decimal → Outcome Float
-readable line (Value x next) = going x
-readable line Unreadable = refused 7 line
-readable line TooLong = refused 19 line
+unfoldable pub readable : ℕ → Amount → Outcome Float
+readable line (amount x) = going x
+readable line unreadable = refused 7 line
+readable line tooLong = refused 19 line
 
 -- "`v` takes a decimal from 0 to 1."; "Decimal command: 7, 19, 8."
-unfoldable pub loudness : ℕ → Decimal → Outcome Float
+unfoldable pub loudness : ℕ → Amount → Outcome Float
 unfolding readable
-loudness line d = do
-  x ← readable line d
+loudness line a = do
+  x ← readable line a
   refuse 8 on line if (lt x plusZero || lt one x)
   going x
 

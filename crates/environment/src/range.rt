@@ -4,7 +4,7 @@
 ghost use mathlib.Core.Path.{_≡_};
 ghost use Prim.Native.Nat.{ℕ};
 ghost use Rattle.environment.specs.Bounds.{bounds};
-ghost use Rattle.environment.specs.Ranges.{ranged, loudness, valueOutcome, amplitudeOutcome};
+ghost use Rattle.environment.specs.Ranges.{digitRun, amountOf, ranged, loudness, valueOutcome, amplitudeOutcome};
 use crate::environment::Environment;
 use number::decimal::Decimal;
 use number::digits::Int;
@@ -23,7 +23,7 @@ pub enum RangedAmplitude {
 
 // The value of a digit run between two bounds: 7 where there is none, 8 where it lies outside.
 pub fn ranged_value(n: Int, least: u32, most: u32) -> RangedValue
-    ensures { λ r. ⌜ ((line : ℕ) → valueOutcome line r ≡ ranged line (bounds least most) n) ⌝ }
+    ensures { λ r. ⌜ ((line : ℕ) → valueOutcome line r ≡ ranged line (bounds least most) (digitRun n)) ⌝ }
 {
     match n {
         Int::Number(v, _) => {
@@ -41,7 +41,7 @@ pub fn ranged_value(n: Int, least: u32, most: u32) -> RangedValue
 
 // The amplitude of a decimal: 7 where there is none, 19 where it is too long, 8 where it lies outside 0 to 1.
 pub fn ranged_amplitude(d: Decimal) -> RangedAmplitude
-    ensures { λ r. ⌜ ((line : ℕ) → amplitudeOutcome line r ≡ loudness line d) ⌝ }
+    ensures { λ r. ⌜ ((line : ℕ) → amplitudeOutcome line r ≡ loudness line (amountOf d)) ⌝ }
 {
     match d {
         Decimal::Value(x, _) => {

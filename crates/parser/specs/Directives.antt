@@ -14,7 +14,7 @@ use Rattle.environment.specs.declared.key.KeyAt.the-variants.{Found, Absent as 
 use Rattle.environment.specs.Keys.{keyAt}
 use Rattle.environment.specs.Bounds.{denominators, tempos}
 use Rattle.environment.specs.Environment.{withTempo, withDenominator, withKey}
-use Rattle.environment.specs.Ranges.{ranged}
+use Rattle.environment.specs.Ranges.{digitRun, ranged}
 
 -- the key that is found, if one is
 unfoldable pub keyFound : KeyAt → Option Key
@@ -23,17 +23,17 @@ keyFound NoKey = none
 
 -- what each directive changes, by its value, which is what its second token begins with
 unfoldable pub directives : ℕ → List (String × (List ℕ → Outcome (Environment → Environment)))
-unfolding ranged intAt keyFound keyAt
+unfolding ranged digitRun intAt keyFound keyAt
 directives line = (
   "#tempo",
   λ text. do
-    v ← ranged line tempos (intAt valueMost text 0)
+    v ← ranged line tempos (digitRun (intAt valueMost text 0))
     going (withTempo v),
 )
     ∷ (
       "#denom",
       λ text. do
-        v ← ranged line denominators (intAt valueMost text 0)
+        v ← ranged line denominators (digitRun (intAt valueMost text 0))
         going (withDenominator v),
     )
     ∷ (

@@ -8,7 +8,6 @@ use lib.Dec.{leb, ltb}
 use lib.ListN.{length, getD}
 use lib.Ieee.{Float, nan}
 use Rattle.text.specs.Characters.{same}
-use Rattle.number.specs.declared.digits.Int.{Int}
 use Rattle.sheet.specs.Capacities.{loopsMost, notesMost, nestingMost, stepsMost}
 use Rattle.sheet.specs.Refusals.{Outcome, going, refused, _>>=_, _>>_, refuse_on_unless_, refuse_on_without_}
 use Rattle.sheet.specs.declared.note.Note.{Note}
@@ -103,7 +102,7 @@ module _ (book : Book) (line : ℕ) where
     going (withNotes (p .part .notes) (record { from = l .from; cut = some (length (p .part .notes)) } ∷ ls) p)
 
   -- "`]`: 10, 11, 21."; the notes are counted "at `]`, after closing"
-  unfoldable pub closed : Int → Progress → Outcome Progress
+  unfoldable pub closed : Option ℕ → Progress → Outcome Progress
   unfolding innermost counted played playedCount
   closed times p = do
     (l, ls) ← refuse 10 on line without (innermost (p .part .loops))
@@ -136,8 +135,8 @@ module _ (book : Book) (line : ℕ) where
   does inner (tempo n) p = do
     v ← ranged line tempos n
     going (changed (withTempo v) p)
-  does inner (amplitude d) p = do
-    x ← loudness line d
+  does inner (amplitude a) p = do
+    x ← loudness line a
     going (changed (withAmplitude x) p)
   does inner (key k) p = do
     x ← refuse 9 on line without k

@@ -22,6 +22,7 @@ use Rattle.environment.specs.declared.key.Key.{Key}
 use Rattle.environment.specs.declared.key.KeyAt.{KeyAt}
 use Rattle.environment.specs.declared.key.KeyAt.the-variants.{Found as KeyFound, Absent as NoKey}
 use Rattle.environment.specs.Keys.{isKeyLetter, noteMarkAt, keyAt}
+use Rattle.environment.specs.Ranges.{Amount, digitRun, amountOf}
 
 -- an item of a body, as it is written
 pub data Item : Type 0 where
@@ -31,11 +32,11 @@ pub data Item : Type 0 where
   up down : Item
   -- `[`, `:`, and `]` with its count
   opening cut : Item
-  closing : Int → Item
+  closing : Option ℕ → Item
   -- `o`, `l` and `t` with their digit runs
-  octave value tempo : Int → Item
+  octave value tempo : Option ℕ → Item
   -- `v` with its decimal
-  amplitude : Decimal → Item
+  amplitude : Amount → Item
   -- `k` with its key
   key : Option Key → Item
   -- `@` and `!` with the name, which that character begins
@@ -87,8 +88,8 @@ unfoldable pub intWidth : Int → ℕ
 intWidth (Number v next) = next
 intWidth Absent = 0
 
-abbrev pub numbered : (Int → Item) → Int → Found
-numbered make n = found (make n) (intWidth n)
+abbrev pub numbered : (Option ℕ → Item) → Int → Found
+numbered make n = found (make (digitRun n)) (intWidth n)
 
 unfoldable pub decimalWidth : Decimal → ℕ
 decimalWidth (Value x next) = next
@@ -107,7 +108,7 @@ named make b s = found (make (b ∷ front isInk s)) (length (front isInk s))
 
 -- what each character begins, from that byte and the bytes after it
 unfoldable pub beginnings : List (Char × (ℕ → List ℕ → Found))
-unfolding intWidth intAt decimalAt decimalWidth keyAt keyItem named
+unfolding digitRun intWidth intAt amountOf decimalAt decimalWidth keyAt keyItem named
 beginnings =
     (">", λ b s. found up 0)
     ∷ ("<", λ b s. found down 0)
@@ -117,7 +118,7 @@ beginnings =
     ∷ ("o", λ b s. numbered octave (intAt valueMost s 0))
     ∷ ("l", λ b s. numbered value (intAt valueMost s 0))
     ∷ ("t", λ b s. numbered tempo (intAt valueMost s 0))
-    ∷ ("v", λ b s. found (amplitude (decimalAt s 0)) (decimalWidth (decimalAt s 0)))
+    ∷ ("v", λ b s. found (amplitude (amountOf (decimalAt s 0))) (decimalWidth (decimalAt s 0)))
     ∷ ("k", λ b s. keyItem (keyAt s 0))
     ∷ ("@", λ b s. named instrument b s)
     ∷ ("!", λ b s. named call b s)

@@ -4,8 +4,6 @@ use mathlib.Core.List.{List, [], _∷_, _++_}
 use mathlib.Core.Option.{Option, none, some}
 use Prim.Native.Nat.{ℕ, zero, suc, _+_, _-_, _*_}
 use lib.ListN.{length, take, drop}
-use Rattle.number.specs.declared.digits.Int.{Int}
-use Rattle.number.specs.declared.digits.Int.the-variants.{Number, Absent}
 use Rattle.sheet.specs.declared.note.Note.{Note}
 
 -- an open loop: how many notes its part had where it opens, and where it is cut
@@ -49,7 +47,7 @@ innermost [] = none
 innermost (l ∷ ls) = some (l, ls)
 
 -- "loop count absent or 0" is none
-unfoldable pub counted : Int → Option ℕ
-counted Absent = none
-counted (Number zero next) = none
-counted (Number (suc n) next) = some (suc n)
+unfoldable pub counted : Option ℕ → Option ℕ
+counted none = none
+counted (some zero) = none
+counted (some (suc n)) = some (suc n)
