@@ -1,6 +1,9 @@
+pub mod Examples
 pub mod Fronts
 pub mod Joins
+pub mod LineCuts
 pub mod Rows
+pub mod Sames
 pub mod Starts
 pub mod Tokens
 pub mod Walks

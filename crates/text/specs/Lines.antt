@@ -1,9 +1,12 @@
 -- Lines, as document 01 has them: "Lines end at LF; one CR before it is dropped." The last line needs no LF, and a CR there is a byte as any
 -- other. Assumes nothing.
-use mathlib.Core.Bool.{true, false, _&&_}
+use mathlib.Core.Bool.{Bool, true, false, not, _&&_}
 use mathlib.Core.List.{List, [], _∷_}
-use Prim.Native.Nat.{ℕ}
+use Prim.Native.Nat.{ℕ, _+_}
 use lib.Dec.{eqb}
+use lib.ListN.{length, drop}
+use Rattle.text.specs.declared.lines.Line.{Line}
+use Rattle.text.specs.Fronts.{front, after}
 
 -- a text without the CR right before each LF
 unfoldable pub withoutCr : List ℕ → List ℕ
@@ -26,3 +29,48 @@ cutAtLf (b ∷ s) = elim (eqb b 10) [ true ↦ [] ∷ cutAtLf s | false ↦ begu
 unfoldable pub linesOf : List ℕ → List (List ℕ)
 unfolding withoutCr cutAtLf
 linesOf s = cutAtLf (withoutCr s)
+
+-- ---- the first line of a text, as code finds it
+
+-- whether a byte does not end a line
+unfoldable pub isNotLf : ℕ → Bool
+isNotLf b = not (eqb b 10)
+
+-- the bytes before an LF without the CR that they may end in
+unfoldable pub unCr : List ℕ → List ℕ
+unCr [] = []
+unCr (b ∷ []) = elim (eqb b 13) [ true ↦ [] | false ↦ b ∷ [] ]
+unCr (b ∷ c ∷ s) = b ∷ unCr (c ∷ s)
+
+-- the first line, where these bytes stand before its LF and these from it on
+unfoldable pub lineBefore : List ℕ → List ℕ → List ℕ
+unfolding unCr
+lineBefore l [] = l
+lineBefore l (b ∷ s) = unCr l
+
+unfoldable pub lineOf : List ℕ → List ℕ
+unfolding front after isNotLf lineBefore
+lineOf s = lineBefore (front isNotLf s) (after isNotLf s)
+
+-- how many bytes it takes with its LF
+unfoldable pub widthBefore : List ℕ → List ℕ → ℕ
+widthBefore l [] = length l
+widthBefore l (b ∷ s) = length l + 1
+
+unfoldable pub lineWidth : List ℕ → ℕ
+unfolding front after isNotLf widthBefore
+lineWidth s = widthBefore (front isNotLf s) (after isNotLf s)
+
+-- what stands behind its LF
+unfoldable pub behindLf : List ℕ → List ℕ
+behindLf [] = []
+behindLf (b ∷ s) = s
+
+unfoldable pub linesBelow : List ℕ → List ℕ
+unfolding after isNotLf behindLf
+linesBelow s = behindLf (after isNotLf s)
+
+-- where the line at place i of a text ends, and where the next one begins
+unfoldable pub lineAt : List ℕ → ℕ → Line
+unfolding lineOf lineWidth
+lineAt s i = record { end = i + length (lineOf (drop i s)); next = i + lineWidth (drop i s) }

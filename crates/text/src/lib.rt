@@ -3,3 +3,4 @@
 
 pub mod blanks;
 pub mod characters;
+pub mod lines;
