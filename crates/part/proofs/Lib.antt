@@ -1,0 +1,2 @@
+pub mod LoopCounts
+pub mod StepCount
