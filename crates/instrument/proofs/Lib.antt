@@ -1,4 +1,5 @@
 pub mod Accepted
+pub mod CommandCount
 pub mod Demand3
 pub mod Descent
 pub mod Examples

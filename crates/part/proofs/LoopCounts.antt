@@ -1,9 +1,9 @@
 -- What a loop's closing is counted at, before any note is laid down, is how many notes it gives: so refusal 21 asks for the notes that are there "after
 -- closing". Assumes nothing.
-use mathlib.Core.Path.{_≡_, refl, sym, ap, ap₂, _∙_}
+use mathlib.Core.Path.{_≡_, sym, ap, _∙_}
 use mathlib.Core.List.{List, [], _∷_, _++_}
 use Prim.Native.Nat.{ℕ, zero, suc, _+_, _-_, _*_}
-use native.Mathlib.Nat.{zero-mul, mul-zero, suc-mul}
+use native.Mathlib.Nat.{zero-mul, mul-zero}
 use native.Mathlib.Omega.{arith}
 use lib.ListN.{length, take, length-append}
 use Rattle.sheet.specs.declared.note.Note.{Note}

@@ -1,7 +1,5 @@
 -- "Reading steps 100,000": a body that goes on has counted no more, with all that its macros count. Each item that is read counts one, and a count that
 -- has reached the limit is refused before. Assumes nothing.
-use mathlib.Core.Path.{_≡_}
-use mathlib.Core.Bool.{true}
 use mathlib.Core.List.{List, [], _∷_}
 use Prim.Native.Nat.{ℕ, zero, suc, _≤_}
 use native.Mathlib.Omega.{arith}
