@@ -2,3 +2,4 @@ pub mod Body
 pub mod Items
 pub mod Loops
 pub mod Notes
+pub mod Written

@@ -1,1 +1,3 @@
-// The body of a part line.
+// The body of a part line (the Rust's `part.rs`): its items, and what each does.
+
+pub mod item;
