@@ -8,6 +8,7 @@ use native.Mathlib.Nat.{zero-add}
 use native.Mathlib.Omega.{arith}
 use lib.Dec.{leb, eqb}
 use lib.ListN.{length, take, drop}
+use lib.Seq.{drop-drop}
 use borrow.Author.Tests.{lt-leb}
 use Rattle.text.specs.Blanks.{isInk}
 use Rattle.text.specs.Fronts.{front, after}
@@ -47,6 +48,23 @@ int-of-moved limit at (d ∷ ds) = go (leb (valueFrom 0 (d ∷ ds)) limit)
     go true = ap (λ (n : ℕ). Number v (at + n)) (sym (zero-add (length (d ∷ ds))))
     go false = refl
 
+-- a digit run at a place is that of the text from there on, moved
+pub int-moved : (limit : ℕ) (s : List ℕ) (at : ℕ) → intAt limit s at ≡ intMoved at (intAt limit (drop at s) 0)
+unfolding intAt
+int-moved limit s at = int-of-moved limit at (front isDigit (drop at s))
+
+moved-twice : (k at : ℕ) (n : Int) → intMoved (k + at) n ≡ intMoved k (intMoved at n)
+moved-twice k at (Number v next) = ap (Number v) (omega arith)
+moved-twice k at Absent = refl
+
+-- and so where the place is counted from an earlier one
+pub int-later : (limit : ℕ) (s : List ℕ) (k at : ℕ) → intAt limit s (k + at) ≡ intMoved k (intAt limit (drop k s) at)
+int-later limit s k at =
+    int-moved limit s (k + at)
+    ∙ ap (λ (l : List ℕ). intMoved (k + at) (intAt limit l 0)) (sym (drop-drop at k s))
+    ∙ moved-twice k at (intAt limit (drop at (drop k s)) 0)
+    ∙ ap (intMoved k) (sym (int-moved limit (drop k s) at))
+
 judged-moved : (at : ℕ) (ds es : List ℕ) (n : ℕ) → judged ds es (at + n) ≡ decimalMoved at (judged ds es n)
 unfolding judged
 judged-moved at ds es n = go (leb (length ds + length es) 18)
@@ -80,6 +98,11 @@ begun-moved : (at : ℕ) (ds rest : List ℕ) → begun at ds rest ≡ decimalMo
 unfolding begun
 begun-moved at [] rest = refl
 begun-moved at (d ∷ ds) rest = ended-moved at (d ∷ ds) rest
+
+-- a decimal at a place is that of the text from there on, moved
+pub decimal-moved : (s : List ℕ) (at : ℕ) → decimalAt s at ≡ decimalMoved at (decimalAt (drop at s) 0)
+unfolding decimalAt
+decimal-moved s at = begun-moved at (front isDigit (drop at s)) (after isDigit (drop at s))
 
 -- ---- a blank, or the end, after the text
 
@@ -121,16 +144,10 @@ module _ (s t : List ℕ) (h : Stops isInk t) where
 module _ (s : List ℕ) (at end : ℕ) (o : at ≤ end) (h : Stops isInk (drop end s)) where
   pub int-token : (limit : ℕ) → intAt limit s at ≡ intMoved at (intAt limit (take (end - at) (drop at s)) 0)
   int-token limit =
-      moved ∙ ap (λ (l : List ℕ). intMoved at (intAt limit l 0)) (part-joined s at end o)
+      int-moved limit s at ∙ ap (λ (l : List ℕ). intMoved at (intAt limit l 0)) (part-joined s at end o)
       ∙ ap (intMoved at) (int-joined (take (end - at) (drop at s)) (drop end s) h limit)
-    where
-      moved : intAt limit s at ≡ intMoved at (intAt limit (drop at s) 0)
-      moved = unfold intAt in int-of-moved limit at (front isDigit (drop at s))
 
   pub decimal-token : decimalAt s at ≡ decimalMoved at (decimalAt (take (end - at) (drop at s)) 0)
   decimal-token =
-      moved ∙ ap (λ (l : List ℕ). decimalMoved at (decimalAt l 0)) (part-joined s at end o)
+      decimal-moved s at ∙ ap (λ (l : List ℕ). decimalMoved at (decimalAt l 0)) (part-joined s at end o)
       ∙ ap (decimalMoved at) (decimal-joined (take (end - at) (drop at s)) (drop end s) h)
-    where
-      moved : decimalAt s at ≡ decimalMoved at (decimalAt (drop at s) 0)
-      moved = unfold decimalAt in begun-moved at (front isDigit (drop at s)) (after isDigit (drop at s))
