@@ -3,12 +3,19 @@
 ghost use mathlib.Core.Path.{_≡_};
 ghost use Prim.Native.Nat.{_+_, _≤_, _<_};
 ghost use lib.ListN.{length, drop, getD};
-ghost use Rattle.part.specs.Items.{itemAt};
+ghost use Rattle.part.specs.Items.{isNoteLetter, noteAt, itemAt};
+ghost use Rattle.part.specs.Steps.{intEnd, decimalEnd, markEnd, keyEnd, rowsFrom};
 ghost use Rattle.part.specs.Written.{foundOf};
 use environment::key::KeyAt;
 use environment::key::Mark;
+use environment::key::key_at;
+use environment::key::note_accidental_at;
 use number::decimal::Decimal;
+use number::decimal::eat_float;
 use number::digits::Int;
+use number::digits::eat_int;
+use text::blanks::ink_end;
+use text::characters::stands_at;
 
 // A note as it is written: its letter, its accidental, its value and whether it is dotted.
 pub struct WrittenNote {
@@ -40,4 +47,235 @@ pub enum Item {
 pub struct Found {
     pub item: Item,
     pub next: usize,
+}
+
+// The place after a digit run that was asked for at `at`.
+fn int_end(n: Int, at: usize) -> usize
+    ensures { λ r. ⌜ r ≡ intEnd at n ⌝ }
+{
+    match n {
+        Int::Number(_, next) => {
+            return next;
+        }
+        Int::Absent => {
+            return at;
+        }
+    }
+}
+
+// The place after a decimal that was asked for at `at`.
+fn decimal_end(d: Decimal, at: usize) -> usize
+    ensures { λ r. ⌜ r ≡ decimalEnd at d ⌝ }
+{
+    match d {
+        Decimal::Value(_, next) => {
+            return next;
+        }
+        Decimal::Unreadable => {
+            return at;
+        }
+        Decimal::TooLong => {
+            return at;
+        }
+    }
+}
+
+// The place after an accidental that was asked for at `at`.
+fn mark_end(m: Mark, at: usize) -> usize
+    ensures { λ r. ⌜ r ≡ markEnd at m ⌝ }
+{
+    match m {
+        Mark::With(_, next) => {
+            return next;
+        }
+        Mark::Without => {
+            return at;
+        }
+    }
+}
+
+// The place after a key that was asked for at `at`.
+fn key_end(k: KeyAt, at: usize) -> usize
+    ensures { λ r. ⌜ r ≡ keyEnd at k ⌝ }
+{
+    match k {
+        KeyAt::Found(_, next) => {
+            return next;
+        }
+        KeyAt::Absent => {
+            return at;
+        }
+    }
+}
+
+// Whether b is one of the letters a to g, or r.
+fn is_note_letter(b: u8) -> bool
+    ensures { λ r. ⌜ r ≡ isNoteLetter b ⌝ }
+{
+    if b == 114 {
+        return true;
+    }
+    if b < 97 {
+        return false;
+    }
+    b <= 103
+}
+
+// The note at place `at` whose letter stands there: behind it an accidental, a value and a dot, each or none.
+fn note_at(text: &[u8], at: usize, letter: u8) -> Found
+    requires { ⌜ at < length (now text) ⌝ }
+    ensures meant { λ r. ⌜ foundOf (now (text .entry)) at r ≡ noteAt letter (drop (at + 1) (now (text .entry))) ⌝ }
+    ensures onward { λ r. ⌜ (at < r .next) × (r .next ≤ length (now (text .entry))) ⌝ }
+{
+    let from = at + 1;
+    let accidental = note_accidental_at(text, from);
+    let behind = mark_end(accidental, from);
+    let value = eat_int(text, behind, 4294967295);
+    let end = int_end(value, behind);
+    if stands_at(text, end, 46) {
+        let dotted = true;
+        let next = end + 1;
+        return Found {
+            item: Item::Note(WrittenNote {
+                letter,
+                accidental,
+                value,
+                dotted,
+            }),
+            next,
+        };
+    }
+    let dotted = false;
+    return Found {
+        item: Item::Note(WrittenNote {
+            letter,
+            accidental,
+            value,
+            dotted,
+        }),
+        next: end,
+    };
+}
+
+// The item at place `at` whose character b is one of `v`, `k`, `@` and `!`, the last four rows of the table, or none of it.
+fn named_at(text: &[u8], at: usize, b: u8) -> Found
+    requires { ⌜ (at < length (now text)) × (b ≡ getD (now text) at 0) ⌝ }
+    ensures meant { λ r. ⌜ foundOf (now (text .entry)) at r ≡ rowsFrom 8 b (drop (at + 1) (now (text .entry))) ⌝ }
+    ensures onward { λ r. ⌜ (at < r .next) × (r .next ≤ length (now (text .entry))) ⌝ }
+{
+    let from = at + 1;
+    if b == 118 {
+        let d = eat_float(text, from);
+        let next = decimal_end(d, from);
+        return Found {
+            item: Item::Amplitude(d),
+            next,
+        };
+    }
+    if b == 107 {
+        let k = key_at(text, from);
+        let next = key_end(k, from);
+        return Found {
+            item: Item::Key(k),
+            next,
+        };
+    }
+    if b == 64 {
+        let next = ink_end(text, from);
+        return Found {
+            item: Item::Instrument,
+            next,
+        };
+    }
+    if b == 33 {
+        let next = ink_end(text, from);
+        return Found {
+            item: Item::Call,
+            next,
+        };
+    }
+    return Found {
+        item: Item::Unknown,
+        next: from,
+    };
+}
+
+// The item at place `at` whose character b is none of `>`, `<`, `[` and `:`, the first four rows: `]`, `o`, `l` and `t` take a digit run.
+fn command_at(text: &[u8], at: usize, b: u8) -> Found
+    requires { ⌜ (at < length (now text)) × (b ≡ getD (now text) at 0) ⌝ }
+    ensures meant { λ r. ⌜ foundOf (now (text .entry)) at r ≡ rowsFrom 4 b (drop (at + 1) (now (text .entry))) ⌝ }
+    ensures onward { λ r. ⌜ (at < r .next) × (r .next ≤ length (now (text .entry))) ⌝ }
+{
+    let from = at + 1;
+    if b == 93 {
+        let count = eat_int(text, from, 18446744073709551615);
+        let next = int_end(count, from);
+        return Found {
+            item: Item::Closing(count),
+            next,
+        };
+    }
+    if b == 111 {
+        let octave = eat_int(text, from, 4294967295);
+        let next = int_end(octave, from);
+        return Found {
+            item: Item::Octave(octave),
+            next,
+        };
+    }
+    if b == 108 {
+        let value = eat_int(text, from, 4294967295);
+        let next = int_end(value, from);
+        return Found {
+            item: Item::Value(value),
+            next,
+        };
+    }
+    if b == 116 {
+        let tempo = eat_int(text, from, 4294967295);
+        let next = int_end(tempo, from);
+        return Found {
+            item: Item::Tempo(tempo),
+            next,
+        };
+    }
+    return named_at(text, at, b);
+}
+
+// The item at place `at` of a text, which is no blank and no `;`.
+pub(crate) fn item_at(text: &[u8], at: usize) -> Found
+    requires { ⌜ at < length (now text) ⌝ }
+    ensures meant { λ r. ⌜ foundOf (now (text .entry)) at r ≡ itemAt (getD (now (text .entry)) at 0) (drop (at + 1) (now (text .entry))) ⌝ }
+    ensures onward { λ r. ⌜ (at < r .next) × (r .next ≤ length (now (text .entry))) ⌝ }
+{
+    let b = text[at];
+    if is_note_letter(b) {
+        return note_at(text, at, b);
+    }
+    let next = at + 1;
+    if b == 62 {
+        return Found {
+            item: Item::Up,
+            next,
+        };
+    }
+    if b == 60 {
+        return Found {
+            item: Item::Down,
+            next,
+        };
+    }
+    if b == 91 {
+        return Found {
+            item: Item::Opening,
+            next,
+        };
+    }
+    if b == 58 {
+        return Found {
+            item: Item::Cut,
+            next,
+        };
+    }
+    return command_at(text, at, b);
 }
