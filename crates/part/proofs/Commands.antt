@@ -4,8 +4,7 @@ use mathlib.Core.Path.{_≡_, refl, sym, ap, ap₂, _∙_}
 use mathlib.Core.Bool.{Bool, true, false}
 use mathlib.Core.List.{List, [], _∷_}
 use mathlib.Core.Option.{Option}
-use Prim.Native.Nat.{ℕ, zero, suc, _+_, _-_, _≤_, _<_}
-use Prim.Native.Char.{Char}
+use Prim.Native.Nat.{ℕ, suc, _+_, _-_, _≤_, _<_}
 use native.Mathlib.Numerals.{add-one}
 use native.Mathlib.Omega.{arith}
 use lib.ListN.{length, take, drop, getD, length-drop}
@@ -14,7 +13,7 @@ use Rattle.text.specs.Blanks.{isInk}
 use Rattle.text.specs.Characters.{rowOf}
 use Rattle.text.specs.Fronts.{front}
 use Rattle.text.proofs.Fronts.{cons-true, cons-false, front-within}
-use Rattle.text.proofs.Rows.{Differs, row-there, row-none}
+use Rattle.text.proofs.Rows.{row-none, row-past}
 use Rattle.number.specs.declared.digits.Int.{Int}
 use Rattle.number.specs.declared.decimal.Decimal.{Decimal}
 use Rattle.number.specs.Digits.{intAt}
@@ -25,11 +24,11 @@ use Rattle.environment.specs.declared.key.KeyAt.the-variants.{Found as KeyFound
 use Rattle.environment.specs.Keys.{keyAt}
 use Rattle.environment.specs.Ranges.{Amount, digitRun, amountOf}
 use Rattle.environment.proofs.Moves.{keyMoved, key-moved}
-use Rattle.part.specs.declared.item.Item.the-variants as Item
-use Rattle.part.specs.Items.{Item, Found, found, unknown, amplitude, key, numbered, named, intWidth, decimalWidth, keyItem, itemAt, isNoteLetter, noteAt, beginnings}
+use Rattle.part.specs.Items.{Item, Found, found, unknown, amplitude, key}
+use Rattle.part.specs.Items.{numbered, named, intWidth, decimalWidth, keyItem, itemAt, isNoteLetter, noteAt, beginnings}
 use Rattle.part.specs.Steps.{intEnd, decimalEnd, keyEnd, rowsFrom}
-use Rattle.part.specs.Written.{keyWithoutPlace, itemOf, foundOf}
-use Rattle.part.proofs.Ends.{Ends, run-moved, amount-moved, int-end-width, decimal-end-width, int-ends, decimal-ends, key-ends}
+use Rattle.part.specs.Written.{keyWithoutPlace}
+use Rattle.part.proofs.Ends.{run-moved, amount-moved, int-end-width, decimal-end-width, int-ends, decimal-ends, key-ends}
 
 -- ---- what is read behind the first byte, which stands at `at`
 
@@ -85,9 +84,12 @@ module _ (text : List ℕ) (at b next : ℕ) (h : at < length text) (q : b ≡ g
       let d : drop at text ≡ b ∷ s = drop-cons text at 0 h ∙ ap₂ (λ (x n : ℕ). x ∷ drop n text) (sym q) (sym (add-one at)) in
       ap₂ (λ (n : ℕ) (l : List ℕ). take n l) w d ∙ ap (λ (l : List ℕ). b ∷ l) (take-front isInk s)
 
-  pub named-found : (make : List ℕ → Item) → found (make (take (next - at) (drop at text))) (next - (at + 1)) ≡ named make b (drop (at + 1) text)
+  -- the byte c that the name begins with is known
+  pub named-found : (make : List ℕ → Item) (c : ℕ) → b ≡ c
+      → found (make (take (next - at) (drop at text))) (next - (at + 1)) ≡ named make c (drop (at + 1) text)
   unfolding named
-  named-found make = ap₂ (λ (l : List ℕ) (w : ℕ). found (make l) w) name-is (omega arith)
+  named-found make c f =
+      ap₂ (λ (l : List ℕ) (w : ℕ). found (make l) w) name-is (omega arith) ∙ ap (λ (x : ℕ). named make x (drop (at + 1) text)) f
 
   pub named-end : (at < next) × (next ≤ length text)
   named-end = (omega arith, omega (arith, front-within isInk (drop (at + 1) text), length-drop (at + 1) text))
@@ -114,6 +116,10 @@ module _ (text : List ℕ) (at next : ℕ) (h : at < length text) where
 
 -- ---- the table
 
+-- what it has for all other characters
+abbrev others : ℕ → List ℕ → Found
+others b s = found unknown 0
+
 -- at a byte that is known
 pub rows-at : (k b c : ℕ) (s : List ℕ) → b ≡ c → rowsFrom k c s ≡ rowsFrom k b s
 rows-at k b c s e = ap (λ (x : ℕ). rowsFrom k x s) (sym e)
@@ -127,23 +133,19 @@ unfolding itemAt
 at-letter b s e = rw (e, itemAt)
 
 -- past rows of other characters
-rows-past : {A : Type 0} (k b : ℕ) (other : A) (rows : List (Char × A)) → Differs b (take k rows) → rowOf b other (drop k rows) ≡ rowOf b other rows
-unfolding rowOf
-rows-past zero b other rows d = refl
-rows-past (suc k) b other [] d = refl
-rows-past (suc k) b other (row ∷ rows) d = rows-past k b other rows (d .1) ∙ sym (row-there b other (row .0) (row .1) rows (d .0))
-
-pub past-marks : (b : ℕ) (s : List ℕ) → isNoteLetter b ≡ false → (b ≡ 62 → ⊥) → (b ≡ 60 → ⊥) → (b ≡ 91 → ⊥) → (b ≡ 58 → ⊥) → rowsFrom 4 b s ≡ itemAt b s
+pub past-marks : (b : ℕ) (s : List ℕ) → isNoteLetter b ≡ false
+    → (b ≡ 62 → ⊥) → (b ≡ 60 → ⊥) → (b ≡ 91 → ⊥) → (b ≡ 58 → ⊥)
+    → rowsFrom 4 b s ≡ itemAt b s
 unfolding itemAt rowsFrom
 past-marks b s e p q r t =
-    ap (λ (f : ℕ → List ℕ → Found). f b s) (rows-past 4 b (λ b s. found unknown 0) beginnings (p, (q, (r, (t, tt)))))
-    ∙ sym (ap (λ (x : Bool). elim x as (λ _. Found) [ true ↦ noteAt b s | false ↦ rowOf b (λ b s. found unknown 0) beginnings b s ]) e)
+    ap (λ (f : ℕ → List ℕ → Found). f b s) (row-past 4 b others beginnings (p, (q, (r, (t, tt)))))
+    ∙ sym (ap (λ (x : Bool). elim x as (λ _. Found) [ true ↦ noteAt b s | false ↦ rowOf b others beginnings b s ]) e)
 
 pub past-runs : (b : ℕ) (s : List ℕ) → (b ≡ 93 → ⊥) → (b ≡ 111 → ⊥) → (b ≡ 108 → ⊥) → (b ≡ 116 → ⊥) → rowsFrom 8 b s ≡ rowsFrom 4 b s
 unfolding rowsFrom
-past-runs b s p q r t = ap (λ (f : ℕ → List ℕ → Found). f b s) (rows-past 4 b (λ b s. found unknown 0) (drop 4 beginnings) (p, (q, (r, (t, tt)))))
+past-runs b s p q r t = ap (λ (f : ℕ → List ℕ → Found). f b s) (row-past 4 b others (drop 4 beginnings) (p, (q, (r, (t, tt)))))
 
 -- past all of them
 pub past-all : (b : ℕ) (s : List ℕ) → (b ≡ 118 → ⊥) → (b ≡ 107 → ⊥) → (b ≡ 64 → ⊥) → (b ≡ 33 → ⊥) → found unknown 0 ≡ rowsFrom 8 b s
 unfolding rowsFrom
-past-all b s p q r t = ap (λ (f : ℕ → List ℕ → Found). f b s) (sym (row-none b (λ b s. found unknown 0) (drop 8 beginnings) (p, (q, (r, (t, tt))))))
+past-all b s p q r t = ap (λ (f : ℕ → List ℕ → Found). f b s) (sym (row-none b others (drop 8 beginnings) (p, (q, (r, (t, tt))))))

@@ -1,6 +1,6 @@
 -- Where what was read at a place ends: as far behind the place as in the text from there on, and within the text. Each law goes through the cases
 -- of what was found. Assumes nothing.
-use mathlib.Core.Path.{_≡_, refl, sym, ap, _∙_}
+use mathlib.Core.Path.{_≡_, refl, sym}
 use mathlib.Core.List.{List}
 use Prim.Native.Nat.{ℕ, _+_, _≤_}
 use native.Mathlib.Omega.{arith}
@@ -12,7 +12,7 @@ use Rattle.number.specs.declared.decimal.Decimal.the-variants.{Value, Unreadabl
 use Rattle.number.specs.Digits.{intAt}
 use Rattle.number.specs.Decimal.{decimalAt}
 use Rattle.number.proofs.Tokens.{intMoved, decimalMoved}
-use Rattle.number.proofs.Places.{Placed, int-placed}
+use Rattle.number.proofs.Places.{int-placed}
 use Rattle.number.proofs.Cuts.{decimal-placed}
 use Rattle.environment.specs.declared.key.Mark.{Mark}
 use Rattle.environment.specs.declared.key.Mark.the-variants.{With, Without}
@@ -20,10 +20,10 @@ use Rattle.environment.specs.declared.key.KeyAt.{KeyAt}
 use Rattle.environment.specs.declared.key.KeyAt.the-variants.{Found as KeyFound, Absent as NoKey}
 use Rattle.environment.specs.Keys.{noteMarkAt, keyAt}
 use Rattle.environment.specs.Ranges.{digitRun, amountOf}
-use Rattle.environment.proofs.Moves.{markMoved, keyMoved, note-mark-within, key-within}
-use Rattle.part.specs.Items.{intWidth, decimalWidth, keyItem}
+use Rattle.environment.proofs.Moves.{markMoved, note-mark-within, key-within}
+use Rattle.part.specs.Items.{intWidth, decimalWidth}
 use Rattle.part.specs.Steps.{intEnd, decimalEnd, markEnd, keyEnd}
-use Rattle.part.specs.Written.{accidentalFound, keyWithoutPlace}
+use Rattle.part.specs.Written.{accidentalFound}
 
 -- ---- what does not see the move
 

@@ -4,12 +4,11 @@ use mathlib.Core.Path.{_≡_, refl, sym, ap, ap₂, _∙_}
 use mathlib.Core.Bool.{Bool, true, false}
 use mathlib.Core.List.{List}
 use mathlib.Core.Option.{Option}
-use Prim.Native.Nat.{ℕ, _+_, _-_, _≤_, _<_}
+use Prim.Native.Nat.{ℕ, _+_, _≤_, _<_}
 use native.Mathlib.Omega.{arith}
 use lib.ListN.{length, drop}
 use lib.Seq.{drop-drop}
 use Rattle.text.specs.Characters.{startsWith}
-use Rattle.text.proofs.Starts.{starts-within}
 use Rattle.number.specs.declared.digits.Int.{Int}
 use Rattle.number.specs.declared.digits.Int.the-variants.{Number, Absent}
 use Rattle.number.specs.Digits.{valueMost, intAt}
@@ -22,10 +21,9 @@ use Rattle.environment.specs.Ranges.{digitRun}
 use Rattle.environment.proofs.Moves.{markMoved, note-mark-moved}
 use Rattle.part.specs.declared.item.Item.the-variants as Item
 use Rattle.part.specs.Items.{found, note, dotted, valued, markedNote, noteAt}
-use Rattle.part.specs.Items as Items
 use Rattle.part.specs.Steps.{intEnd, markEnd}
 use Rattle.part.specs.Written.{accidentalFound, foundOf}
-use Rattle.part.proofs.Ends.{Ends, run-moved, accidental-moved, int-end-moved, mark-end-moved, int-ends, mark-ends}
+use Rattle.part.proofs.Ends.{run-moved, accidental-moved, int-end-moved, mark-end-moved, int-ends, mark-ends}
 
 -- ---- the definition without its cases
 
@@ -71,19 +69,26 @@ note-is : (letter : ℕ) (s : List ℕ) → noteAt letter s ≡ dotted letter (a
 unfolding noteAt
 note-is letter s = marked-is letter (noteMarkAt s 0) s ∙ valued-is letter (accidentalFound (noteMarkAt s 0)) (behindMark s) (valueBehind s) s
 
-module _ (text : List ℕ) (at letter : ℕ) (m : Mark) (behind : ℕ) (n : Int) (end : ℕ) (h : at < length text)
-    (em : m ≡ noteMarkAt text (at + 1)) (eb : behind ≡ markEnd (at + 1) m) (en : n ≡ intAt valueMost text behind) (ee : end ≡ intEnd behind n) where
+-- what the code finds in the text behind the letter, which stands at `at`: the accidental ends at `behind`, and the value at `end`
+pub record Read (text : List ℕ) (at : ℕ) (m : Mark) (behind : ℕ) (n : Int) (end : ℕ) : Type 0 where
+  pub inside : at < length text
+  pub mark : m ≡ noteMarkAt text (at + 1)
+  pub marked : behind ≡ markEnd (at + 1) m
+  pub int : n ≡ intAt valueMost text behind
+  pub ended : end ≡ intEnd behind n
+
+module _ (text : List ℕ) (at letter : ℕ) (m : Mark) (behind : ℕ) (n : Int) (end : ℕ) (r : Read text at m behind n end) where
   mark-is : m ≡ markMoved (at + 1) (noteMarkAt (drop (at + 1) text) 0)
-  mark-is = em ∙ note-mark-moved text (at + 1)
+  mark-is = r .mark ∙ note-mark-moved text (at + 1)
 
   behind-is : behind ≡ at + 1 + (behindMark (drop (at + 1) text))
-  behind-is = eb ∙ ap (markEnd (at + 1)) mark-is ∙ mark-end-moved (at + 1) (noteMarkAt (drop (at + 1) text) 0)
+  behind-is = r .marked ∙ ap (markEnd (at + 1)) mark-is ∙ mark-end-moved (at + 1) (noteMarkAt (drop (at + 1) text) 0)
 
   int-is : n ≡ intMoved (at + 1) (valueBehind (drop (at + 1) text))
-  int-is = en ∙ ap (intAt valueMost text) behind-is ∙ int-later valueMost text (at + 1) (behindMark (drop (at + 1) text))
+  int-is = r .int ∙ ap (intAt valueMost text) behind-is ∙ int-later valueMost text (at + 1) (behindMark (drop (at + 1) text))
 
   end-is : end ≡ at + 1 + (behindValue (drop (at + 1) text))
-  end-is = ee ∙ ap₂ intEnd behind-is int-is ∙ int-end-moved (at + 1) (behindMark (drop (at + 1) text)) (valueBehind (drop (at + 1) text))
+  end-is = r .ended ∙ ap₂ intEnd behind-is int-is ∙ int-end-moved (at + 1) (behindMark (drop (at + 1) text)) (valueBehind (drop (at + 1) text))
 
   dot-is : startsWith 46 (drop (behindValue (drop (at + 1) text)) (drop (at + 1) text)) ≡ startsWith 46 (drop end text)
   dot-is = ap (startsWith 46) (drop-drop (behindValue (drop (at + 1) text)) (at + 1) text ∙ ap (λ (x : ℕ). drop x text) (sym end-is))
@@ -115,6 +120,7 @@ module _ (text : List ℕ) (at letter : ℕ) (m : Mark) (behind : ℕ) (n : Int)
   -- the value ends behind the letter and within the text
   pub note-end : (at < end) × (end ≤ length text)
   note-end =
-      let b = mark-ends text (at + 1) m em (omega arith) in
-      let w = int-ends valueMost text behind n en (omega (arith, b .within, eb)) in
-      (omega (arith, b .past, w .past, eb, ee), omega (arith, w .within, ee))
+      let h = r .inside in
+      let b = mark-ends text (at + 1) m (r .mark) (omega arith) in
+      let w = int-ends valueMost text behind n (r .int) (omega (arith, b .within, r .marked)) in
+      (omega (arith, b .past, w .past, r .marked, r .ended), omega (arith, w .within, r .ended))

@@ -1,8 +1,9 @@
 -- Laws of tables of characters: a byte that is the first row's character has that row, and else what the other rows have. Assumes nothing.
-use mathlib.Core.Path.{_≡_, refl, _∙_}
+use mathlib.Core.Path.{_≡_, refl, sym, _∙_}
 use mathlib.Core.List.{List, [], _∷_}
-use Prim.Native.Nat.{ℕ}
+use Prim.Native.Nat.{ℕ, zero, suc}
 use Prim.Native.Char.{Char, code}
+use lib.ListN.{take, drop}
 use borrow.Author.Tests.{eq-eqb, ne-eqb}
 use Rattle.text.specs.Characters.{rowOf}
 
@@ -25,3 +26,10 @@ pub row-none : {A : Type 0} (b : ℕ) (other : A) (rows : List (Char × A)) → 
 unfolding rowOf
 row-none b other [] h = refl
 row-none b other (row ∷ rows) h = row-there b other (row .0) (row .1) rows (h .0) ∙ row-none b other rows (h .1)
+
+-- and rows that it passes may be left out
+pub row-past : {A : Type 0} (k b : ℕ) (other : A) (rows : List (Char × A)) → Differs b (take k rows) → rowOf b other (drop k rows) ≡ rowOf b other rows
+unfolding rowOf
+row-past zero b other rows h = refl
+row-past (suc k) b other [] h = refl
+row-past (suc k) b other (row ∷ rows) h = row-past k b other rows (h .1) ∙ sym (row-there b other (row .0) (row .1) rows (h .0))

@@ -1,5 +1,5 @@
 -- `command_at` goes through the rows of digit runs: at each the table computes, and a run is that of the text behind the first byte. Assumes nothing.
-use mathlib.Core.Path.{_≡_, _∙_}
+use mathlib.Core.Path.{_∙_}
 use Rattle.number.specs.Digits.{valueMost, countMost}
 use Rattle.part.specs.Items.{closing, octave, value, tempo}
 use Rattle.part.specs.Steps.{rowsFrom}
@@ -84,7 +84,8 @@ returns-5 c =
     let s = c .before .before .before .before .before .before in
     let a = s .args in
     let e = c .named-at .ensures in
-    (e .0 ∙ past-runs (a .b) _ (c .before .before .before .before .if1 .left) (c .before .before .before .if2 .left) (c .before .before .if3 .left) (c .before .if4 .left), e .1)
+    let t = c .before .before .before in
+    (e .0 ∙ past-runs (a .b) _ (t .before .if1 .left) (t .if2 .left) (c .before .before .if3 .left) (c .before .if4 .left), e .1)
 
 pub command-at-spec : {M : Type 1} → statement M
 command-at-spec =

@@ -1,6 +1,6 @@
 -- `item_at` asks for a note's letter first and then goes through the table: its first four rows have one byte, and the rest is `command_at`'s. Assumes
 -- nothing.
-use mathlib.Core.Path.{_≡_, sym, _∙_}
+use mathlib.Core.Path.{sym, _∙_}
 use Rattle.part.specs.Items.{up, down, opening, cut, itemAt}
 use Rattle.part.specs.Written.{foundOf}
 use Rattle.part.proofs.Commands.{alone-found, alone-end, item-at, at-letter, past-marks}
@@ -60,7 +60,9 @@ returns-6 : tie.Need-returns-6
 returns-6 c =
     let e = c .command-at .ensures in
     let n = c .before .before .before .before .before in
-    (e .0 ∙ past-marks _ _ (sym (n .before .is-note-letter .ensures) ∙ n .if1 .left) (c .before .before .before .before .if2 .left) (c .before .before .before .if3 .left) (c .before .before .if4 .left) (c .before .if5 .left), e .1)
+    let l = sym (n .before .is-note-letter .ensures) ∙ n .if1 .left in
+    let t = c .before .before .before in
+    (e .0 ∙ past-marks _ _ l (t .before .if2 .left) (t .if3 .left) (c .before .before .if4 .left) (c .before .if5 .left), e .1)
 
 pub item-at-spec : {M : Type 1} → statement M
 item-at-spec =

@@ -1,11 +1,10 @@
 -- `named_at` goes through the table's last rows: at each the table computes, and the laws of `Commands` say what is found there. Assumes nothing.
-use mathlib.Core.Path.{_≡_, ap, _∙_}
-use Prim.Native.Nat.{ℕ, _+_}
-use lib.ListN.{drop}
-use Rattle.part.specs.Items.{instrument, call, unknown, named}
+use mathlib.Core.Path.{_∙_}
+use Rattle.part.specs.Items.{instrument, call, unknown}
 use Rattle.part.specs.Steps.{rowsFrom}
 use Rattle.part.specs.Written.{foundOf}
-use Rattle.part.proofs.Commands.{amplitude-found, key-found, named-found, alone-found, decimal-end-of, key-end-of, named-end, alone-end, rows-at, past-all}
+use Rattle.part.proofs.Commands.{amplitude-found, key-found, named-found, alone-found, rows-at, past-all}
+use Rattle.part.proofs.Commands.{decimal-end-of, key-end-of, named-end, alone-end}
 use borrow.Author.Needs.{needs}
 use Rattle.part.proofs.item.named_at.Statement.{statement}
 use Rattle.part.proofs.item.named_at.Tie as tie
@@ -54,7 +53,7 @@ returns-3 c =
     let s = c .before .before .before .before .before in
     let a = s .args in
     let e = c .before .if3 .taken in (
-      named-found (a .text .now) (a .at) (a .b) _ (s .pre .0) (s .pre .1) (c .ink-end .ensures) instrument ∙ ap (λ (x : ℕ). named instrument x (drop (a .at + 1) (a .text .now))) e ∙ rows-at 8 (a .b) 64 _ e,
+      named-found (a .text .now) (a .at) (a .b) _ (s .pre .0) (s .pre .1) (c .ink-end .ensures) instrument 64 e ∙ rows-at 8 (a .b) 64 _ e,
       named-end (a .text .now) (a .at) (a .b) _ (s .pre .0) (s .pre .1) (c .ink-end .ensures),
     )
 
@@ -67,7 +66,7 @@ returns-4 c =
     let s = c .before .before .before .before .before .before in
     let a = s .args in
     let e = c .before .if4 .taken in (
-      named-found (a .text .now) (a .at) (a .b) _ (s .pre .0) (s .pre .1) (c .ink-end2 .ensures) call ∙ ap (λ (x : ℕ). named call x (drop (a .at + 1) (a .text .now))) e ∙ rows-at 8 (a .b) 33 _ e,
+      named-found (a .text .now) (a .at) (a .b) _ (s .pre .0) (s .pre .1) (c .ink-end2 .ensures) call 33 e ∙ rows-at 8 (a .b) 33 _ e,
       named-end (a .text .now) (a .at) (a .b) _ (s .pre .0) (s .pre .1) (c .ink-end2 .ensures),
     )
 
