@@ -1,4 +1,5 @@
-// The items of a body as they are written: the item at a place of a text, and the place after it.
+// The items of a body as they are written: the item at a place of a text, and the place after it. The table of beginnings is read in three
+// functions, each of which has some rows and hands on what is left.
 
 ghost use mathlib.Core.Path.{_≡_};
 ghost use Prim.Native.Nat.{_+_, _≤_, _<_};
@@ -157,8 +158,8 @@ fn note_at(text: &[u8], at: usize, letter: u8) -> Found
     };
 }
 
-// The item at place `at` whose character b is one of `v`, `k`, `@` and `!`, the last four rows of the table, or none of it.
-fn named_at(text: &[u8], at: usize, b: u8) -> Found
+// The item at place `at`, where the character b stands, by the last four rows of the table: `v`, `k`, `@` and `!`.
+fn other_at(text: &[u8], at: usize, b: u8) -> Found
     requires { ⌜ (at < length (now text)) × (b ≡ getD (now text) at 0) ⌝ }
     ensures meant { λ r. ⌜ foundOf (now (text .entry)) at r ≡ rowsFrom 8 b (drop (at + 1) (now (text .entry))) ⌝ }
     ensures onward { λ r. ⌜ (at < r .next) × (r .next ≤ length (now (text .entry))) ⌝ }
@@ -181,17 +182,17 @@ fn named_at(text: &[u8], at: usize, b: u8) -> Found
         };
     }
     if b == 64 {
-        let next = ink_end(text, from);
+        let name_end = ink_end(text, from);
         return Found {
             item: Item::Instrument,
-            next,
+            next: name_end,
         };
     }
     if b == 33 {
-        let next = ink_end(text, from);
+        let call_end = ink_end(text, from);
         return Found {
             item: Item::Call,
-            next,
+            next: call_end,
         };
     }
     return Found {
@@ -200,7 +201,8 @@ fn named_at(text: &[u8], at: usize, b: u8) -> Found
     };
 }
 
-// The item at place `at` whose character b is none of `>`, `<`, `[` and `:`, the first four rows: `]`, `o`, `l` and `t` take a digit run.
+// The item at place `at`, where the character b stands, by the table without its first four rows: `]`, `o`, `l` and `t` take a
+// digit run, and `other_at` has the rest.
 fn command_at(text: &[u8], at: usize, b: u8) -> Found
     requires { ⌜ (at < length (now text)) × (b ≡ getD (now text) at 0) ⌝ }
     ensures meant { λ r. ⌜ foundOf (now (text .entry)) at r ≡ rowsFrom 4 b (drop (at + 1) (now (text .entry))) ⌝ }
@@ -239,7 +241,7 @@ fn command_at(text: &[u8], at: usize, b: u8) -> Found
             next,
         };
     }
-    return named_at(text, at, b);
+    return other_at(text, at, b);
 }
 
 // The item at place `at` of a text, which is no blank and no `;`.

@@ -76,14 +76,14 @@ returns-4 c =
       int-end-of (a .text .now) (a .at) _ (s .pre .0) valueMost _ e (c .int-end4 .ensures),
     )
 
-named-at-requires : tie.Need-named-at-requires
-named-at-requires c κs = search needs
+other-at-requires : tie.Need-other-at-requires
+other-at-requires c κs = search needs
 
 returns-5 : tie.Need-returns-5
 returns-5 c =
     let s = c .before .before .before .before .before .before in
     let a = s .args in
-    let e = c .named-at .ensures in
+    let e = c .other-at .ensures in
     let t = c .before .before .before in
     (e .0 ∙ past-runs (a .b) _ (t .before .if1 .left) (t .if2 .left) (c .before .before .if3 .left) (c .before .if4 .left), e .1)
 
@@ -104,5 +104,5 @@ command-at-spec =
     eat-int-requires-4
     int-end-requires-4
     returns-4
-    named-at-requires
+    other-at-requires
     returns-5)

@@ -1,4 +1,4 @@
--- `named_at` goes through the table's last rows: at each the table computes, and the laws of `Commands` say what is found there. Assumes nothing.
+-- `other_at` goes through the table's last rows: at each the table computes, and the laws of `Commands` say what is found there. Assumes nothing.
 use mathlib.Core.Path.{_∙_}
 use Rattle.part.specs.Items.{instrument, call, unknown}
 use Rattle.part.specs.Steps.{rowsFrom}
@@ -6,8 +6,8 @@ use Rattle.part.specs.Written.{foundOf}
 use Rattle.part.proofs.Commands.{amplitude-found, key-found, named-found, alone-found, rows-at, past-all}
 use Rattle.part.proofs.Commands.{decimal-end-of, key-end-of, named-end, alone-end}
 use borrow.Author.Needs.{needs}
-use Rattle.part.proofs.item.named_at.Statement.{statement}
-use Rattle.part.proofs.item.named_at.Tie as tie
+use Rattle.part.proofs.item.other_at.Statement.{statement}
+use Rattle.part.proofs.item.other_at.Tie as tie
 
 add-from : tie.Need-add-from
 add-from c = search needs
@@ -79,8 +79,8 @@ returns-5 c =
       alone-end (a .text .now) (a .at) (s .pre .0),
     )
 
-pub named-at-spec : {M : Type 1} → statement M
-named-at-spec =
+pub other-at-spec : {M : Type 1} → statement M
+other-at-spec =
     tie.close
     (tie.spec
     add-from
