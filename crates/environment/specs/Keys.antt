@@ -116,6 +116,15 @@ keyAt s at =
 abbrev pub keyRows : Key → List (Char × Bool)
 keyRows k = ("a", k .a) ∷ ("b", k .b) ∷ ("c", k .c) ∷ ("d", k .d) ∷ ("e", k .e) ∷ ("f", k .f) ∷ ("g", k .g) ∷ []
 
+-- an accidental and a key without the place after them
+unfoldable pub accidentalFound : Mark → Option Accidental
+accidentalFound (With a next) = some a
+accidentalFound Without = none
+
+unfoldable pub keyFound : KeyAt → Option Key
+keyFound (Found k next) = some k
+keyFound Absent = none
+
 -- whether a letter is in a key: `r` never is
 unfoldable pub inKey : Key → ℕ → Bool
 unfolding rowOf

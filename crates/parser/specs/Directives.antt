@@ -1,25 +1,16 @@
 -- Directives, as document 01 has them: "A directive changes the starting environment and every existing part's." Here is how a directive's two tokens
 -- say what is changed; `Sheets.antt` carries the change out. Assumes nothing.
 use mathlib.Core.List.{List, [], _∷_}
-use mathlib.Core.Option.{Option, none, some}
 use Prim.Native.Nat.{ℕ}
 use Prim.Native.String.{String}
 use Rattle.text.specs.Characters.{rowNamed}
 use Rattle.number.specs.Digits.{valueMost, intAt}
 use Rattle.sheet.specs.Refusals.{Outcome, going, refused, _>>=_, refuse_on_without_}
 use Rattle.environment.specs.declared.environment.Environment.{Environment}
-use Rattle.environment.specs.declared.key.Key.{Key}
-use Rattle.environment.specs.declared.key.KeyAt.{KeyAt}
-use Rattle.environment.specs.declared.key.KeyAt.the-variants.{Found, Absent as NoKey}
-use Rattle.environment.specs.Keys.{keyAt}
+use Rattle.environment.specs.Keys.{keyAt, keyFound}
 use Rattle.environment.specs.Bounds.{denominators, tempos}
 use Rattle.environment.specs.Environment.{withTempo, withDenominator, withKey}
 use Rattle.environment.specs.Ranges.{digitRun, ranged}
-
--- the key that is found, if one is
-unfoldable pub keyFound : KeyAt → Option Key
-keyFound (Found k next) = some k
-keyFound NoKey = none
 
 -- what each directive changes, by its value, which is what its second token begins with
 unfoldable pub directives : ℕ → List (String × (List ℕ → Outcome (Environment → Environment)))

@@ -27,7 +27,7 @@ use Rattle.environment.proofs.Moves.{keyMoved, key-moved}
 use Rattle.part.specs.Items.{Item, Found, found, unknown, amplitude, key}
 use Rattle.part.specs.Items.{numbered, named, intWidth, decimalWidth, keyItem, itemAt, isNoteLetter, noteAt, beginnings}
 use Rattle.part.specs.Steps.{intEnd, decimalEnd, keyEnd, rowsFrom}
-use Rattle.part.specs.Written.{keyWithoutPlace}
+use Rattle.environment.specs.Keys.{keyFound}
 use Rattle.part.proofs.Ends.{run-moved, amount-moved, int-end-width, decimal-end-width, int-ends, decimal-ends, key-ends}
 
 -- ---- what is read behind the first byte, which stands at `at`
@@ -52,16 +52,16 @@ module _ (text : List ℕ) (at : ℕ) where
       let v : amountOf d ≡ amountOf d₀ = ap amountOf m ∙ amount-moved (at + 1) d₀ in
       ap₂ (λ (v : Amount) (w : ℕ). found (amplitude v) w) v (omega arith)
 
-  key-item : (k : KeyAt) → found (key (keyWithoutPlace (keyMoved (at + 1) k))) (keyEnd (at + 1) (keyMoved (at + 1) k) - (at + 1)) ≡ keyItem k
-  unfolding keyWithoutPlace keyEnd keyItem
-  key-item (KeyFound k next) = ap (λ (w : ℕ). found (key (keyWithoutPlace (KeyFound k next))) w) (omega arith)
-  key-item NoKey = ap (λ (w : ℕ). found (key (keyWithoutPlace NoKey)) w) (omega arith)
+  key-item : (k : KeyAt) → found (key (keyFound (keyMoved (at + 1) k))) (keyEnd (at + 1) (keyMoved (at + 1) k) - (at + 1)) ≡ keyItem k
+  unfolding keyFound keyEnd keyItem
+  key-item (KeyFound k next) = ap (λ (w : ℕ). found (key (keyFound (KeyFound k next))) w) (omega arith)
+  key-item NoKey = ap (λ (w : ℕ). found (key (keyFound NoKey)) w) (omega arith)
 
   pub key-found : (k : KeyAt) (next : ℕ) → k ≡ keyAt text (at + 1) → next ≡ keyEnd (at + 1) k
-      → found (key (keyWithoutPlace k)) (next - (at + 1)) ≡ keyItem (keyAt (drop (at + 1) text) 0)
+      → found (key (keyFound k)) (next - (at + 1)) ≡ keyItem (keyAt (drop (at + 1) text) 0)
   key-found k next e f =
-      ap (λ (w : ℕ). found (key (keyWithoutPlace k)) (w - (at + 1))) f
-      ∙ ap (λ (k : KeyAt). found (key (keyWithoutPlace k)) (keyEnd (at + 1) k - (at + 1))) (e ∙ key-moved text (at + 1))
+      ap (λ (w : ℕ). found (key (keyFound k)) (w - (at + 1))) f
+      ∙ ap (λ (k : KeyAt). found (key (keyFound k)) (keyEnd (at + 1) k - (at + 1))) (e ∙ key-moved text (at + 1))
       ∙ key-item (keyAt (drop (at + 1) text) 0)
 
 -- ---- names

@@ -23,7 +23,7 @@ use Rattle.environment.specs.Ranges.{digitRun, amountOf}
 use Rattle.environment.proofs.Moves.{markMoved, note-mark-within, key-within}
 use Rattle.part.specs.Items.{intWidth, decimalWidth}
 use Rattle.part.specs.Steps.{intEnd, decimalEnd, markEnd, keyEnd}
-use Rattle.part.specs.Written.{accidentalFound}
+use Rattle.environment.specs.Keys.{accidentalFound}
 
 -- ---- what does not see the move
 

@@ -22,7 +22,8 @@ use Rattle.environment.proofs.Moves.{markMoved, note-mark-moved}
 use Rattle.part.specs.declared.item.Item.the-variants as Item
 use Rattle.part.specs.Items.{found, note, dotted, valued, markedNote, noteAt}
 use Rattle.part.specs.Steps.{intEnd, markEnd}
-use Rattle.part.specs.Written.{accidentalFound, foundOf}
+use Rattle.environment.specs.Keys.{accidentalFound}
+use Rattle.part.specs.Written.{foundOf}
 use Rattle.part.proofs.Ends.{run-moved, accidental-moved, int-end-moved, mark-end-moved, int-ends, mark-ends}
 
 -- ---- the definition without its cases

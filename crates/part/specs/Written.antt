@@ -1,34 +1,18 @@
 -- What the code keeps of an item, in the terms of `Items.antt`: numbers without their places, and names as parts of the text. Private functions'
 -- contracts cite this, and no public one. Assumes nothing.
 use mathlib.Core.List.{List}
-use mathlib.Core.Option.{Option, none, some}
 use Prim.Native.Nat.{ℕ, _+_, _-_}
 use lib.ListN.{take, drop}
-use Rattle.environment.specs.declared.key.Accidental.{Accidental}
-use Rattle.environment.specs.declared.key.Mark.{Mark}
-use Rattle.environment.specs.declared.key.Mark.the-variants.{With, Without}
-use Rattle.environment.specs.declared.key.Key.{Key}
-use Rattle.environment.specs.declared.key.KeyAt.{KeyAt}
-use Rattle.environment.specs.declared.key.KeyAt.the-variants.{Found as KeyFound, Absent as NoKey}
+use Rattle.environment.specs.Keys.{accidentalFound, keyFound}
 use Rattle.environment.specs.Ranges.{digitRun, amountOf}
 use Rattle.part.specs.declared.item.Item.{Item}
 use Rattle.part.specs.declared.item.Item.the-variants as Item
 use Rattle.part.specs.declared.item.Found.{Found}
 use Rattle.part.specs.Items as Items
 
--- an accidental without the place after it
-unfoldable pub accidentalFound : Mark → Option Accidental
-accidentalFound (With a next) = some a
-accidentalFound Without = none
-
--- a key without the place after it
-unfoldable pub keyWithoutPlace : KeyAt → Option Key
-keyWithoutPlace (KeyFound k next) = some k
-keyWithoutPlace NoKey = none
-
 -- the item that stands from the place `at` of a text up to `next`
 unfoldable pub itemOf : List ℕ → ℕ → ℕ → Item → Items.Item
-unfolding accidentalFound keyWithoutPlace digitRun amountOf
+unfolding accidentalFound keyFound digitRun amountOf
 itemOf text at next (Item.Note n) = Items.note (n .letter) (accidentalFound (n .accidental)) (digitRun (n .value)) (n .dotted)
 itemOf text at next Item.Up = Items.up
 itemOf text at next Item.Down = Items.down
@@ -39,7 +23,7 @@ itemOf text at next (Item.Octave n) = Items.octave (digitRun n)
 itemOf text at next (Item.Value n) = Items.value (digitRun n)
 itemOf text at next (Item.Tempo n) = Items.tempo (digitRun n)
 itemOf text at next (Item.Amplitude d) = Items.amplitude (amountOf d)
-itemOf text at next (Item.Key k) = Items.key (keyWithoutPlace k)
+itemOf text at next (Item.Key k) = Items.key (keyFound k)
 itemOf text at next Item.Instrument = Items.instrument (take (next - at) (drop at text))
 itemOf text at next Item.Call = Items.call (take (next - at) (drop at text))
 itemOf text at next Item.Unknown = Items.unknown
