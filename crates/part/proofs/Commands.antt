@@ -1,8 +1,8 @@
 -- Commands, names and the other items of the table: a number or a key that is read where it stands is that of the text behind the first byte, and at a
 -- known byte the table computes. Assumes nothing.
-use mathlib.Core.Path.{_≡_, refl, sym, ap, ap₂, _∙_}
+use mathlib.Core.Path.{_≡_, sym, ap, ap₂, _∙_}
 use mathlib.Core.Bool.{Bool, true, false}
-use mathlib.Core.List.{List, [], _∷_}
+use mathlib.Core.List.{List, _∷_}
 use mathlib.Core.Option.{Option}
 use Prim.Native.Nat.{ℕ, suc, _+_, _-_, _≤_, _<_}
 use native.Mathlib.Numerals.{add-one}
@@ -12,7 +12,7 @@ use lib.Seq.{drop-cons}
 use Rattle.text.specs.Blanks.{isInk}
 use Rattle.text.specs.Characters.{rowOf}
 use Rattle.text.specs.Fronts.{front}
-use Rattle.text.proofs.Fronts.{cons-true, cons-false, front-within}
+use Rattle.text.proofs.Fronts.{front-within, take-front}
 use Rattle.text.proofs.Rows.{row-none, row-past}
 use Rattle.number.specs.declared.digits.Int.{Int}
 use Rattle.number.specs.declared.decimal.Decimal.{Decimal}
@@ -65,15 +65,6 @@ module _ (text : List ℕ) (at : ℕ) where
       ∙ key-item (keyAt (drop (at + 1) text) 0)
 
 -- ---- names
-
-take-front : (p : ℕ → Bool) (s : List ℕ) → take (length (front p s)) s ≡ front p s
-unfolding front
-take-front p [] = refl
-take-front p (b ∷ s) = go (p b) refl (take-front p s)
-  where
-    go : (x : Bool) → p b ≡ x → take (length (front p s)) s ≡ front p s → take (length (front p (b ∷ s))) (b ∷ s) ≡ front p (b ∷ s)
-    go true e ih = rw (cons-true p b s e) (ap (λ (l : List ℕ). b ∷ l) ih)
-    go false e ih = rw (cons-false p b s e)
 
 module _ (text : List ℕ) (at b next : ℕ) (h : at < length text) (q : b ≡ getD text at 0)
     (e : next ≡ at + 1 + length (front isInk (drop (at + 1) text))) where

@@ -5,7 +5,7 @@ use mathlib.Core.Bool.{Bool, true, false}
 use mathlib.Core.List.{List, [], _∷_}
 use Prim.Native.Nat.{ℕ, suc, _+_, _≤_, _<_, zero-le, suc-le-suc}
 use native.Mathlib.Numerals.{add-one}
-use lib.ListN.{length, drop, getD, drop-of-length-le}
+use lib.ListN.{length, take, drop, getD, drop-of-length-le}
 use lib.Seq.{drop-cons, drop-drop}
 use Rattle.text.specs.Fronts.{front, after}
 
@@ -46,6 +46,16 @@ pub front-within : (p : ℕ → Bool) (s : List ℕ) → length (front p s) ≤ 
 unfolding front
 front-within p [] = zero-le
 front-within p (b ∷ s) = within-cons p b s (front-within p s) (p b) refl
+
+-- and it is what the text has there
+pub take-front : (p : ℕ → Bool) (s : List ℕ) → take (length (front p s)) s ≡ front p s
+unfolding front
+take-front p [] = refl
+take-front p (b ∷ s) = go (p b) refl (take-front p s)
+  where
+    go : (x : Bool) → p b ≡ x → take (length (front p s)) s ≡ front p s → take (length (front p (b ∷ s))) (b ∷ s) ≡ front p (b ∷ s)
+    go true e ih = rw (e, front) (ap (λ (l : List ℕ). b ∷ l) ih)
+    go false e ih = rw (e, front)
 
 -- ---- what follows a front
 

@@ -11,7 +11,7 @@ use lib.ListN.{length, take, drop, length-drop, drop-of-length-le}
 use Rattle.text.specs.Blanks.{isBlank, isInk}
 use Rattle.text.specs.Fronts.{front, after}
 use Rattle.text.specs.Tokens.{tokensFrom, tokensOf}
-use Rattle.text.proofs.Fronts.{cons-true, Stops, front-within, after-is, after-stops}
+use Rattle.text.proofs.Fronts.{cons-true, Stops, front-within, take-front, after-is, after-stops}
 
 -- ---- one byte
 
@@ -80,15 +80,6 @@ pub tokens-some : (s : List ℕ) → 0 < length (after isBlank s)
 tokens-some s o = tokens-blank s ∙ tokens-ink (after isBlank s) (after-stops isBlank s) o
 
 -- ---- by places
-
-take-front : (p : ℕ → Bool) (s : List ℕ) → take (length (front p s)) s ≡ front p s
-unfolding front
-take-front p [] = refl
-take-front p (b ∷ s) = go (p b) refl (take-front p s)
-  where
-    go : (x : Bool) → p b ≡ x → take (length (front p s)) s ≡ front p s → take (length (front p (b ∷ s))) (b ∷ s) ≡ front p (b ∷ s)
-    go true e ih = rw (e, front) (ap (λ (l : List ℕ). b ∷ l) ih)
-    go false e ih = rw (e, front)
 
 ink-some : (s : List ℕ) → Stops isBlank s → 0 < length s → 0 < length (front isInk s)
 ink-some [] h o = absurd (omega arith)
