@@ -80,7 +80,7 @@ pub fn note_accidental_at(s: &[u8], at: usize) -> Mark
 }
 
 // Whether b is one of the letters a to g.
-fn is_key_letter(b: u8) -> bool
+pub fn is_key_letter(b: u8) -> bool
     ensures { λ r. ⌜ r ≡ isKeyLetter b ⌝ }
 {
     if b < 97 {

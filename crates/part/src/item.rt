@@ -9,6 +9,7 @@ ghost use Rattle.part.specs.Steps.{intEnd, decimalEnd, markEnd, keyEnd, 
 ghost use Rattle.part.specs.Written.{foundOf};
 use environment::key::KeyAt;
 use environment::key::Mark;
+use environment::key::is_key_letter;
 use environment::key::key_at;
 use environment::key::note_accidental_at;
 use number::decimal::Decimal;
@@ -113,13 +114,10 @@ fn key_end(k: KeyAt, at: usize) -> usize
 fn is_note_letter(b: u8) -> bool
     ensures { λ r. ⌜ r ≡ isNoteLetter b ⌝ }
 {
-    if b == 114 {
+    if is_key_letter(b) {
         return true;
     }
-    if b < 97 {
-        return false;
-    }
-    b <= 103
+    b == 114
 }
 
 // The note at place `at` whose letter stands there: behind it an accidental, a value and a dot, each or none.
