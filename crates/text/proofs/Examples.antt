@@ -1,9 +1,8 @@
 -- Worked lines and tokens, by computation. Document 01: "Lines end at LF; one CR before it is dropped."; "first token the name, the rest the body; under two
 -- tokens it is skipped". Assumes nothing.
 use mathlib.Core.Path.{_≡_, refl}
-use mathlib.Core.List.{List, [], _∷_, map}
+use mathlib.Core.List.{[], _∷_}
 use mathlib.Core.Option.{none, some}
-use Prim.Native.String.{String}
 use Rattle.text.specs.Quoted.{bytes}
 use Rattle.text.specs.Lines.{linesOf}
 use Rattle.text.specs.Tokens.{tokensOf, namedOf}
