@@ -2,6 +2,9 @@ pub mod Examples
 pub mod Fronts
 pub mod Joins
 pub mod LineCuts
+pub mod LinePlaces
+pub mod Named
+pub mod Places
 pub mod Rows
 pub mod Sames
 pub mod Starts

@@ -2,9 +2,13 @@
 use mathlib.Core.Bool.{Bool, true, false}
 use mathlib.Core.List.{List, [], _∷_}
 use mathlib.Core.Option.{Option, none, some}
-use Prim.Native.Nat.{ℕ}
+use Prim.Native.Nat.{ℕ, _+_}
+use lib.Dec.{ltb}
+use lib.ListN.{length, drop}
 use Rattle.text.specs.Blanks.{isBlank, isInk}
+use Rattle.text.specs.declared.names.NameAt.{NameAt}
 use Rattle.text.specs.Fronts.{front, after}
+use Rattle.text.specs.Names.{between}
 
 -- the tokens of a text that goes on inside a token, or not: one begins at each ink that stands at the start or behind a blank
 unfoldable pub tokensFrom : Bool → List ℕ → List (List ℕ)
@@ -38,3 +42,17 @@ pub record Named : Type 0 where
 unfoldable pub namedOf : List ℕ → Option Named
 unfolding after isBlank firstToken afterToken
 namedOf l = elim (after isBlank (afterToken l)) [ [] ↦ none | b ∷ s ↦ some (record { name = firstToken l; body = afterToken l }) ]
+
+-- ---- the name of a line, as code finds it
+
+-- where the first token begins and ends, and whether something follows it
+unfoldable pub nameAt : List ℕ → NameAt
+unfolding front isBlank isInk
+nameAt l =
+    let from = length (front isBlank l) in
+    let end = from + length (front isInk (drop from l)) in
+    record { from = from; end = end; two = ltb (end + length (front isBlank (drop end l))) (length l) }
+
+-- the line of two tokens or more that these places tell
+unfoldable pub namedBy : List ℕ → NameAt → Option Named
+namedBy l n = elim (n .two) [ true ↦ some (record { name = between l (n .from) (n .end); body = drop (n .end) l }) | false ↦ none ]

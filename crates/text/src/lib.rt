@@ -4,3 +4,4 @@
 pub mod blanks;
 pub mod characters;
 pub mod lines;
+pub mod names;
