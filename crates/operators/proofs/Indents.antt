@@ -29,7 +29,7 @@ pub record Fits (before : Option ℕ) (above : ℕ) (o : Line) : Type 0 where
   pub indent : indentRefusal before (o .indent) ≡ 0
   pub room : above < operatorsMost
 
-one-fits : (line : ℕ) (before : Option ℕ) (above : ℕ) (l : List ℕ) → Holds (Fits before above) (operatorRead line before above l)
+pub one-fits : (line : ℕ) (before : Option ℕ) (above : ℕ) (l : List ℕ) → Holds (Fits before above) (operatorRead line before above l)
 unfolding operatorRead
 one-fits line before above l =
     holds-indented _ line before (indentOf l) _

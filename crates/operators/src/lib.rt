@@ -1,3 +1,4 @@
 // Operator lines (the Rust's `parser/instrument.rs`): from a line's text to an operator.
 
+pub mod block;
 pub mod line;

@@ -1,1 +1,2 @@
 pub mod Holds
+pub mod Outcomes
