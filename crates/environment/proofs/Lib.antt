@@ -1,3 +1,4 @@
+pub mod Changing
 pub mod Letters
 pub mod Limits
 pub mod Marks

@@ -1,4 +1,5 @@
 pub mod Bounds
+pub mod Changes
 pub mod Environment
 pub mod Keys
 pub mod Ranges

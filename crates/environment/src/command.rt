@@ -1,0 +1,108 @@
+// Commands that change an environment (the Rust's `int_command` and `float_command` with what they are called for): the environment afterwards, or the
+// number of a refusal.
+
+ghost use mathlib.Core.Path.{_≡_};
+ghost use Prim.Native.Nat.{ℕ};
+ghost use Rattle.environment.specs.Changes.{changeOutcome, octaveRead, valueRead, tempoRead, amplitudeRead, keyRead};
+ghost use Rattle.environment.specs.Keys.{keyFound};
+ghost use Rattle.environment.specs.Ranges.{digitRun, amountOf};
+use crate::environment::Environment;
+use crate::key::KeyAt;
+use crate::range::RangedAmplitude;
+use crate::range::RangedValue;
+use crate::range::ranged_amplitude;
+use crate::range::ranged_value;
+use number::decimal::Decimal;
+use number::digits::Int;
+
+// An environment, or the number of a refusal.
+pub enum Changed {
+    To(Environment),
+    Refused(u32),
+}
+
+impl Environment {
+    // `o` and its digit run: 7 where there is none, 8 where it is out of range.
+    pub fn octave_command(self, n: Int) -> Changed
+        ensures { λ r. ⌜ ((line : ℕ) → changeOutcome line r ≡ octaveRead line (digitRun n) self) ⌝ }
+    {
+        let mut next = self;
+        let found = ranged_value(n, Environment::MIN_OCTAVE, Environment::MAX_OCTAVE);
+        match found {
+            RangedValue::Value(v) => {
+                next.octave = v;
+                return Changed::To(next);
+            }
+            RangedValue::Refused(number) => {
+                return Changed::Refused(number);
+            }
+        }
+    }
+
+    // `l` and its digit run.
+    pub fn value_command(self, n: Int) -> Changed
+        ensures { λ r. ⌜ ((line : ℕ) → changeOutcome line r ≡ valueRead line (digitRun n) self) ⌝ }
+    {
+        let mut next = self;
+        let found = ranged_value(n, Environment::MIN_VALUE, Environment::MAX_VALUE);
+        match found {
+            RangedValue::Value(v) => {
+                next.value = v;
+                return Changed::To(next);
+            }
+            RangedValue::Refused(number) => {
+                return Changed::Refused(number);
+            }
+        }
+    }
+
+    // `t` and its digit run.
+    pub fn tempo_command(self, n: Int) -> Changed
+        ensures { λ r. ⌜ ((line : ℕ) → changeOutcome line r ≡ tempoRead line (digitRun n) self) ⌝ }
+    {
+        let mut next = self;
+        let found = ranged_value(n, Environment::MIN_TEMPO, Environment::MAX_TEMPO);
+        match found {
+            RangedValue::Value(v) => {
+                next.tempo = v;
+                return Changed::To(next);
+            }
+            RangedValue::Refused(number) => {
+                return Changed::Refused(number);
+            }
+        }
+    }
+
+    // `v` and its decimal: 7 where there is none, 19 where it is too long, 8 where it is out of range.
+    pub fn amplitude_command(self, d: Decimal) -> Changed
+        ensures { λ r. ⌜ ((line : ℕ) → changeOutcome line r ≡ amplitudeRead line (amountOf d) self) ⌝ }
+    {
+        let mut next = self;
+        let found = ranged_amplitude(d);
+        match found {
+            RangedAmplitude::Amplitude(x) => {
+                next.amplitude = x;
+                return Changed::To(next);
+            }
+            RangedAmplitude::Refused(number) => {
+                return Changed::Refused(number);
+            }
+        }
+    }
+
+    // `k` and its key: 9 where it has no accidental.
+    pub fn key_command(self, k: KeyAt) -> Changed
+        ensures { λ r. ⌜ ((line : ℕ) → changeOutcome line r ≡ keyRead line (keyFound k) self) ⌝ }
+    {
+        let mut next = self;
+        match k {
+            KeyAt::Found(key, _) => {
+                next.key = key;
+                return Changed::To(next);
+            }
+            KeyAt::Absent => {
+                return Changed::Refused(9);
+            }
+        }
+    }
+}
