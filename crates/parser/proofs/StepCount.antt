@@ -23,7 +23,7 @@ header-kept line name below r g = holds-unless _ _ _ _ _ (λ e. holds-unless _ _
 
 directive-kept : (line : ℕ) (l : List ℕ) (r : Read) → Kept r → Holds Kept (directiveRead line l r)
 unfolding directiveRead
-directive-kept line l r g = holds-after _ _ _ (λ n. holds-after _ _ _ (λ f. holds-going Kept _ g))
+directive-kept line l r g = holds-after _ _ _ (λ f. holds-going Kept _ g)
 
 macro-kept : (line : ℕ) (l : List ℕ) (r : Read) → Kept r → Holds Kept (macroRead line l r)
 unfolding macroRead

@@ -1,3 +1,2 @@
-pub mod Directives
 pub mod Layout
 pub mod Sheets

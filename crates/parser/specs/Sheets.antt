@@ -5,23 +5,21 @@ use mathlib.Core.List.{List, [], _∷_, _++_, map}
 use mathlib.Core.Option.{Option, none, some}
 use Prim.Native.Nat.{ℕ, zero, suc, _+_, max}
 use lib.Dec.{leb, ltb, eqb}
-use lib.ListN.{length, getD}
-use lib.Ieee.{Float, nan}
+use lib.ListN.{length}
+use lib.Ieee.{Float}
 use Rattle.ieee.specs.Constants.{plusZero, one}
 use Rattle.text.specs.Characters.{same, rowOf}
 use Rattle.text.specs.Lines.{linesOf}
-use Rattle.text.specs.Tokens.{Named, namedOf, firstToken}
-use Rattle.tone.specs.Time.{lengthOf}
+use Rattle.text.specs.Tokens.{Named, namedOf}
 use Rattle.instrument.specs.Lines.{Line, releaseOf}
-use Rattle.sheet.specs.declared.note.Note.{Note}
 use Rattle.sheet.specs.Capacities.{sourceMost, partsMost, macrosMost, instrumentsMost, sheetMost}
 use Rattle.sheet.specs.Refusals.{Outcome, going, _>>=_, _>>_, refuse_on_unless_, refuse_on_if_, refuse_on_without_}
 use Rattle.environment.specs.declared.environment.Environment.{Environment}
 use Rattle.environment.specs.Environment.{atTheStart}
 use Rattle.operators.specs.OperatorLines.{operatorLines, operatorsRead}
 use Rattle.part.specs.Body.{Part, Macro, Book, bodyRead, macroNamed, placeOf}
-use Rattle.part.specs.Notes.{soundingOf, samplesOf}
-use Rattle.parser.specs.Directives.{changeOf}
+use Rattle.notes.specs.Lengths.{endOf}
+use Rattle.directive.specs.Directives.{directiveOf}
 
 -- ---- what has been read so far
 
@@ -84,10 +82,9 @@ everyPart f (p ∷ ps) =
 
 -- "A directive changes the starting environment and every existing part's."; "Directive: 7 for tokens, 6, then value."
 unfoldable pub directiveRead : ℕ → List ℕ → Read → Outcome Read
-unfolding namedOf firstToken changeOf everyPart
+unfolding directiveOf everyPart
 directiveRead line l r = do
-  n ← refuse 7 on line without (namedOf l)
-  f ← changeOf line (n .name) (firstToken (n .body))
+  f ← directiveOf line l
   going (readOf (f (r .start)) (everyPart f (r .parts)) (r .macros) (r .names) (r .instruments) (r .steps))
 
 -- ---- macros
@@ -184,16 +181,6 @@ linesRead rate zero line (l ∷ ls) r = do
 unfoldable pub anyOpen : List NamedPart → Bool
 anyOpen [] = false
 anyOpen (p ∷ ps) = elim (p .part .loops) [ [] ↦ anyOpen ps | l ∷ ls ↦ true ]
-
--- "A note starts where the sums of ceil(duration·44100) before it end, and sounds ceil((duration + release)·44100) samples"; the largest end of the
--- notes of a part, from a start on
-unfoldable pub endOf : ℕ → List Float → ℕ → List Note → ℕ
-unfolding lengthOf soundingOf samplesOf
-endOf rate releases start [] = 0
-endOf rate releases start (n ∷ ns) =
-    max
-    (start + samplesOf (soundingOf rate (getD releases (n .instrument) nan) n))
-    (endOf rate releases (start + samplesOf (lengthOf rate (n .duration))) ns)
 
 -- "The sheet's length is the largest end of a sounding note, 0 without notes."
 unfoldable pub lengthFrom : ℕ → List Float → List NamedPart → ℕ

@@ -1,5 +1,10 @@
-pub mod Commands
-pub mod Ends
-pub mod LoopCounts
-pub mod Notes
+pub mod Changed
+pub mod Closing
+pub mod Columns
+pub mod Doing
+pub mod Macros
+pub mod Noted
+pub mod Played
+pub mod Running
+pub mod Settling
 pub mod StepCount

@@ -7,8 +7,8 @@ use borrow.Author.Tests.{ltb-true}
 use Rattle.sheet.specs.Capacities.{nestingMost, stepsMost}
 use Rattle.sheet.specs.Refusals.{Outcome}
 use Rattle.sheet.proofs.Holds.{Holds, holds-going, holds-refused, holds-unless, holds-then, holds-after}
-use Rattle.part.specs.Items.{Item, note, up, down, opening, cut, closing, octave, value, tempo, amplitude, key, instrument, call, unknown, itemsOf}
-use Rattle.part.specs.Body.{Macro, Book, Progress, oneStep, noted, opened, cutHere, closed, called, does, stepped, run, inside, bodyRead}
+use Rattle.items.specs.Items.{Item, note, up, down, opening, cut, closing, octave, value, tempo, amplitude, key, instrument, call, unknown, itemsOf}
+use Rattle.part.specs.Body.{Macro, Book, Progress, oneStep, noted, opened, cutHere, closed, changing, called, does, stepped, run, inside, bodyRead}
 
 -- no more than the limit
 abbrev pub Counted : Progress → Type 0
@@ -17,7 +17,7 @@ Counted p = p .steps ≤ stepsMost
 module _ (book : Book) (line : ℕ) (inner : Macro → Progress → Outcome Progress) (calls : (m : Macro) (p : Progress) → Counted p → Holds Counted (inner m p)) where
   -- an item counts nothing itself
   does-counted : (i : Item) (p : Progress) → Counted p → Holds Counted (does book line inner i p)
-  unfolding does noted opened cutHere closed called
+  unfolding does noted opened cutHere closed changing called
   does-counted (note letter a v dot) p g =
       holds-unless _ _ _ _ _ (λ e. holds-unless _ _ _ _ _ (λ f. holds-unless _ _ _ _ _ (λ h. holds-going Counted _ g)))
   does-counted up p g = holds-going Counted _ g

@@ -13,12 +13,12 @@ use Rattle.sheet.specs.Refusals.{Outcome, going, refused, _>>=_, _>>_, refuse_o
 use Rattle.sheet.specs.declared.note.Note.{Note}
 use Rattle.environment.specs.declared.environment.Environment.{Environment}
 use Rattle.environment.specs.declared.key.Accidental.{Accidental}
-use Rattle.environment.specs.Bounds.{octaves, values, tempos, within}
-use Rattle.environment.specs.Environment.{withOctave, withValue, withTempo, withAmplitude, withKey, withInstrument, octaveUp, octaveDown}
-use Rattle.environment.specs.Ranges.{ranged, loudness}
-use Rattle.part.specs.Items.{Item, note, up, down, opening, cut, closing, octave, value, tempo, amplitude, key, instrument, call, unknown, itemsOf}
-use Rattle.part.specs.Loops.{Loop, played, playedCount, innermost, counted}
-use Rattle.part.specs.Notes.{noteOf, valueOf, soundingOf, isCounted}
+use Rattle.environment.specs.Bounds.{values, within}
+use Rattle.environment.specs.Changes.{octaveRead, valueRead, tempoRead, amplitudeRead, keyRead}
+use Rattle.environment.specs.Environment.{withInstrument, octaveUp, octaveDown}
+use Rattle.items.specs.Items.{Item, note, up, down, opening, cut, closing, octave, value, tempo, amplitude, key, instrument, call, unknown, itemsOf}
+use Rattle.loops.specs.Loops.{Loop, played, playedCount, innermost, counted}
+use Rattle.notes.specs.Notes.{noteOf, valueOf, soundingOf, isCounted}
 
 -- ---- what a body is read in
 
@@ -55,8 +55,8 @@ withPart e ns ls p = record { part = record { env = e; notes = ns; loops = ls };
 abbrev pub withNotes : List Note → List Loop → Progress → Progress
 withNotes ns ls p = withPart (p .part .env) ns ls p
 
-abbrev pub changed : (Environment → Environment) → Progress → Progress
-changed f p = withPart (f (p .part .env)) (p .part .notes) (p .part .loops) p
+abbrev pub changedTo : Environment → Progress → Progress
+changedTo e p = withPart e (p .part .notes) (p .part .loops) p
 
 abbrev pub oneStep : Progress → Progress
 oneStep p = record { part = p .part; others = p .others; steps = p .steps + 1 }
@@ -76,6 +76,12 @@ placeOf name n [] = none
 placeOf name n (x ∷ xs) = elim (same name x) [ true ↦ some n | false ↦ placeOf name (n + 1) xs ]
 
 -- ---- items, on a line and with a book
+
+-- the environment that a command reads, in place of the part's
+unfoldable pub changing : Outcome Environment → Progress → Outcome Progress
+changing o p = do
+  e ← o
+  going (changedTo e p)
 
 module _ (book : Book) (line : ℕ) where
   -- "Note: 8, 24, 21."
@@ -119,31 +125,21 @@ module _ (book : Book) (line : ℕ) where
 
   -- what an item does
   unfoldable pub does : (Macro → Progress → Outcome Progress) → Item → Progress → Outcome Progress
-  unfolding noted valueOf octaveUp octaveDown opened cutHere closed ranged loudness placeOf called
+  unfolding noted valueOf octaveUp octaveDown opened cutHere closed changing octaveRead valueRead tempoRead amplitudeRead keyRead placeOf called
   does inner (note letter a v dot) p = noted letter a (valueOf (p .part .env) v) dot p
-  does inner up p = going (changed octaveUp p)
-  does inner down p = going (changed octaveDown p)
+  does inner up p = going (changedTo (octaveUp (p .part .env)) p)
+  does inner down p = going (changedTo (octaveDown (p .part .env)) p)
   does inner opening p = opened p
   does inner cut p = cutHere p
   does inner (closing n) p = closed n p
-  does inner (octave n) p = do
-    v ← ranged line octaves n
-    going (changed (withOctave v) p)
-  does inner (value n) p = do
-    v ← ranged line values n
-    going (changed (withValue v) p)
-  does inner (tempo n) p = do
-    v ← ranged line tempos n
-    going (changed (withTempo v) p)
-  does inner (amplitude a) p = do
-    x ← loudness line a
-    going (changed (withAmplitude x) p)
-  does inner (key k) p = do
-    x ← refuse 9 on line without k
-    going (changed (withKey x) p)
+  does inner (octave n) p = changing (octaveRead line n (p .part .env)) p
+  does inner (value n) p = changing (valueRead line n (p .part .env)) p
+  does inner (tempo n) p = changing (tempoRead line n (p .part .env)) p
+  does inner (amplitude a) p = changing (amplitudeRead line a (p .part .env)) p
+  does inner (key k) p = changing (keyRead line k (p .part .env)) p
   does inner (instrument name) p = do
     i ← refuse 12 on line without (placeOf name 1 (book .names))
-    going (changed (withInstrument i) p)
+    going (changedTo (withInstrument i (p .part .env)) p)
   does inner (call name) p = called inner name p
   does inner unknown p = refused 14 line
 

@@ -1,6 +1,3 @@
 pub mod Body
-pub mod Items
-pub mod Loops
-pub mod Notes
-pub mod Steps
-pub mod Written
+pub mod Columns
+pub mod Reading

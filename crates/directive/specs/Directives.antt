@@ -1,0 +1,66 @@
+-- Directives, as document 01 has them: "A directive changes the starting environment and every existing part's." Here is how a directive's two tokens
+-- say what is changed; `applied` carries the change out. Assumes nothing.
+use mathlib.Core.List.{List, [], _∷_}
+use Prim.Native.Nat.{ℕ}
+use Prim.Native.String.{String}
+use Rattle.text.specs.Characters.{rowNamed}
+use Rattle.text.specs.Tokens.{namedOf, firstToken}
+use Rattle.number.specs.Digits.{valueMost, intAt}
+use Rattle.sheet.specs.Refusals.{Outcome, going, refused, _>>=_, refuse_on_without_}
+use Rattle.environment.specs.declared.environment.Environment.{Environment}
+use Rattle.directive.specs.declared.directive.Directive.{Directive}
+use Rattle.directive.specs.declared.directive.Directive.the-variants.{Tempo, Denominator, OfKey, Refused}
+use Rattle.environment.specs.Keys.{keyAt, keyFound}
+use Rattle.environment.specs.Bounds.{denominators, tempos}
+use Rattle.environment.specs.Environment.{withTempo, withDenominator, withKey}
+use Rattle.environment.specs.Ranges.{digitRun, ranged}
+
+-- what each directive changes, by its value, which is what its second token begins with
+unfoldable pub directives : ℕ → List (String × (List ℕ → Outcome (Environment → Environment)))
+unfolding ranged digitRun intAt keyFound keyAt
+directives line = (
+  "#tempo",
+  λ text. do
+    v ← ranged line tempos (digitRun (intAt valueMost text 0))
+    going (withTempo v),
+)
+    ∷ (
+      "#denom",
+      λ text. do
+        v ← ranged line denominators (digitRun (intAt valueMost text 0))
+        going (withDenominator v),
+    )
+    ∷ (
+      "#key",
+      λ text. do
+        k ← refuse 9 on line without (keyFound (keyAt text 0))
+        going (withKey k),
+    )
+    ∷ []
+
+-- "6, then value"
+unfoldable pub changeOf : ℕ → List ℕ → List ℕ → Outcome (Environment → Environment)
+unfolding rowNamed directives
+changeOf line name text = rowNamed name (λ text. refused 6 line) (directives line) text
+
+-- "Directive: 7 for tokens, 6, then value.": what a line says that is to be changed
+unfoldable pub directiveOf : ℕ → List ℕ → Outcome (Environment → Environment)
+unfolding namedOf firstToken changeOf
+directiveOf line l = do
+  n ← refuse 7 on line without (namedOf l)
+  changeOf line (n .name) (firstToken (n .body))
+
+-- ---- answers: what each case stands for, on a line
+
+unfoldable pub directiveOutcome : ℕ → Directive → Outcome (Environment → Environment)
+directiveOutcome line (Tempo v) = going (withTempo v)
+directiveOutcome line (Denominator v) = going (withDenominator v)
+directiveOutcome line (OfKey k) = going (withKey k)
+directiveOutcome line (Refused n) = refused n line
+
+-- the change carried out; a refusal changes nothing
+unfoldable pub applied : Directive → Environment → Environment
+applied (Tempo v) e = withTempo v e
+applied (Denominator v) e = withDenominator v e
+applied (OfKey k) e = withKey k e
+applied (Refused n) e = e

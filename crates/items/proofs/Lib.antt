@@ -1,0 +1,4 @@
+pub mod Commands
+pub mod Ends
+pub mod Notes
+pub mod Starts

@@ -1,0 +1,4 @@
+pub mod KeptCounts
+pub mod LoopCounts
+pub mod Passes
+pub mod Repeats
