@@ -1,6 +1,6 @@
 -- Laws of commands: an answer that is known is what the definition reads, and a command leaves an octave that is in range in range. Assumes nothing.
 use mathlib.Core.Path.{_≡_, refl, sym, ap, _∙_}
-use mathlib.Core.Bool.{Bool, true, false, _&&_, _||_}
+use mathlib.Core.Bool.{Bool, true, false, _||_}
 use mathlib.Core.Option.{Option, none, some}
 use Prim.Native.Nat.{ℕ, _≤_}
 use native.Mathlib.Omega.{arith}
@@ -8,6 +8,7 @@ use lib.Dec.{leb}
 use lib.Ieee.{Float, lt}
 use borrow.Author.Tests.{leb-true}
 use Rattle.ieee.specs.Constants.{plusZero, one}
+use Rattle.sheet.proofs.Basics.{both}
 use Rattle.sheet.specs.Refusals.{Outcome, going, _>>=_, _>>_, refuse_on_unless_, refuse_on_if_, refuse_on_without_}
 use Rattle.environment.specs.declared.environment.Environment.{Environment}
 use Rattle.environment.specs.declared.command.Changed.the-variants.{To, Refused}
@@ -59,15 +60,11 @@ module _ (e : Environment) (r : KeyAt) where
 
 -- ---- octaves in range, and refusals whose number is not 0
 
-and-second : (a b : Bool) → a && b ≡ true → b ≡ true
-and-second true b e = e
-and-second false b e = let z : _≡_ {A = ℕ} 0 1 = ap (λ (x : Bool). elim x [ true ↦ 1 | false ↦ 0 ]) e in absurd (omega (arith, z))
-
 -- a number that is read within bounds, whatever is made of it
 module _ (line : ℕ) (b : Bounds) (f : ℕ → Environment) (low : (v : ℕ) → v ≤ b .most → f v .octave ≤ 8) where
   within-low : (v : ℕ) (t : Bool) → within b v ≡ t → Low (_>>_ (refuse_on_unless_ 8 line t) (going v) >>= (λ w. going (f w)))
   unfolding Low _>>=_ _>>_ refuse_on_unless_
-  within-low v true e = low v (leb-true v (b .most) (and-second (leb (b .least) v) (leb v (b .most)) e))
+  within-low v true e = low v (leb-true v (b .most) (both (leb (b .least) v) (leb v (b .most)) e .1))
   within-low v false e = omega arith
 
   ranged-low : (n : Option ℕ) → Low (ranged line b n >>= (λ w. going (f w)))

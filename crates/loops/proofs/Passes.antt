@@ -2,21 +2,14 @@
 use mathlib.Core.Path.{_≡_, refl, sym, ap, ap₂, _∙_}
 use mathlib.Core.List.{List, [], _∷_, _++_, append-nil}
 use mathlib.Core.Option.{Option, none, some}
-use Prim.Native.Nat.{ℕ, zero, suc, _+_, _-_, _*_, _≤_, _<_, min}
+use Prim.Native.Nat.{ℕ, _+_, _-_, _*_, _≤_, _<_, min}
 use native.Mathlib.Omega.{arith}
 use lib.ListN.{length, take, drop, length-drop, drop-of-length-le}
 use lib.Seq.{length-take-le, take-all, take-nil}
+use Rattle.sheet.proofs.Basics.{take-least}
 use Rattle.sheet.specs.declared.note.Note.{Note}
 use Rattle.loops.specs.Loops.{Loop, bodyOf, lastPass, copies, bodies, played, playedCount, lastCount}
 use Rattle.loops.proofs.LoopCounts.{played-count}
-
--- the notes before the cut are a count of the body's notes
-take-min : (k : ℕ) (ns : List Note) → take k ns ≡ take (min k (length ns)) ns
-take-min zero ns = let e : 0 ≡ min 0 (length ns) = omega arith in ap (λ (j : ℕ). take j ns) e
-take-min (suc k) [] = sym (take-nil (min (suc k) 0))
-take-min (suc k) (n ∷ ns) =
-    let e : suc (min k (length ns)) ≡ min (suc k) (suc (length ns)) = omega arith in
-    ap (λ (ms : List Note). n ∷ ms) (take-min k ns) ∙ ap (λ (j : ℕ). take j (n ∷ ns)) e
 
 last-pass : (l : Loop) (ns : List Note) → lastPass l ns ≡ take (lastCount (l .from) (l .cut) (length ns - l .from)) (drop (l .from) ns)
 unfolding lastPass bodyOf lastCount
@@ -24,7 +17,7 @@ last-pass l ns = go (l .from) (l .cut)
   where
     go : (start : ℕ) (c : Option ℕ) → lastPass (record { from = start; cut = c }) ns ≡ take (lastCount start c (length ns - start)) (drop start ns)
     go start none = sym (take-all (length ns - start) (drop start ns) (omega (arith, length-drop start ns)))
-    go start (some k) = take-min (k - start) (drop start ns) ∙ ap (λ (j : ℕ). take (min (k - start) j) (drop start ns)) (length-drop start ns)
+    go start (some k) = sym (take-least (k - start) (drop start ns)) ∙ ap (λ (j : ℕ). take (min (k - start) j) (drop start ns)) (length-drop start ns)
 
 bodies-are : (k : ℕ) (ns : List Note) → 0 < length ns → bodies k ns ≡ copies k ns
 unfolding bodies

@@ -1,7 +1,7 @@
 -- What is done for an item that the code has found: the item of the definition that it is, and for notes, marks and unknown characters what `does` says of it.
 -- Assumes nothing.
 use mathlib.Core.Path.{_≡_, refl, sym, ap, subst, _∙_}
-use mathlib.Core.Bool.{Bool, true, false}
+use mathlib.Core.Bool.{Bool, true}
 use mathlib.Core.List.{List}
 use mathlib.Core.Option.{Option}
 use Prim.Native.Nat.{ℕ, _≤_}
@@ -10,6 +10,7 @@ use lib.Ieee.{Float}
 use Rattle.text.specs.Names.{between}
 use Rattle.number.specs.declared.digits.Int.{Int}
 use Rattle.number.specs.declared.decimal.Decimal.{Decimal}
+use Rattle.sheet.proofs.Basics.{false-true}
 use Rattle.sheet.specs.Refusals.{Outcome, going, _>>=_}
 use Rattle.environment.specs.declared.key.Accidental.{Accidental}
 use Rattle.environment.specs.declared.environment.Environment.{Environment}
@@ -87,25 +88,22 @@ module _ (text : List ℕ) (at next : ℕ) (i : Item) where
   unfolding itemOf
   written-unknown e = ap (itemOf text at next) e
 
-pub true-false : {A : Type 0} → false ≡ true → A
-true-false e = let z : _≡_ {A = ℕ} 0 1 = ap (λ (x : Bool). elim x [ true ↦ 1 | false ↦ 0 ]) e in absurd (omega (arith, z))
-
 pub written-call : (text : List ℕ) (at next : ℕ) (i : Item) → isCall i ≡ true → itemOf text at next i ≡ Items.call (between text at next)
 unfolding itemOf isCall
-written-call text at next (Item.Note n) e = true-false e
-written-call text at next Item.Up e = true-false e
-written-call text at next Item.Down e = true-false e
-written-call text at next Item.Opening e = true-false e
-written-call text at next Item.Cut e = true-false e
-written-call text at next (Item.Closing n) e = true-false e
-written-call text at next (Item.Octave n) e = true-false e
-written-call text at next (Item.Value n) e = true-false e
-written-call text at next (Item.Tempo n) e = true-false e
-written-call text at next (Item.Amplitude d) e = true-false e
-written-call text at next (Item.Key k) e = true-false e
-written-call text at next Item.Instrument e = true-false e
+written-call text at next (Item.Note n) e = false-true e
+written-call text at next Item.Up e = false-true e
+written-call text at next Item.Down e = false-true e
+written-call text at next Item.Opening e = false-true e
+written-call text at next Item.Cut e = false-true e
+written-call text at next (Item.Closing n) e = false-true e
+written-call text at next (Item.Octave n) e = false-true e
+written-call text at next (Item.Value n) e = false-true e
+written-call text at next (Item.Tempo n) e = false-true e
+written-call text at next (Item.Amplitude d) e = false-true e
+written-call text at next (Item.Key k) e = false-true e
+written-call text at next Item.Instrument e = false-true e
 written-call text at next Item.Call e = refl
-written-call text at next Item.Unknown e = true-false e
+written-call text at next Item.Unknown e = false-true e
 
 -- ---- octaves stay in range
 

@@ -1,13 +1,14 @@
 -- What the reader of a part's line promises, from what the reader of bodies does: which states are ready, and the state and the columns afterwards. Assumes
 -- nothing.
 use mathlib.Core.Path.{_≡_, refl, sym, ap, ap₂, subst, _∙_}
-use mathlib.Core.Bool.{Bool, true, false, _&&_}
+use mathlib.Core.Bool.{true, false}
 use mathlib.Core.List.{List}
 use Prim.Native.Nat.{ℕ, _*_, _-_, _≤_}
 use native.Mathlib.Omega.{arith}
 use lib.ListN.{length, take}
 use lib.Ieee.{Float}
-use borrow.Author.Tests.{leb-true, eqb-true, le-leb, eq-eqb}
+use borrow.Author.Tests.{leb-true, eqb-true}
+use Rattle.sheet.proofs.Basics.{both}
 use Rattle.sheet.specs.Capacities.{loopsMost, notesMost, instrumentsMost}
 use Rattle.sheet.specs.Refusals.{Outcome, going, refused}
 use Rattle.part.specs.declared.state.State.{State}
@@ -19,10 +20,6 @@ use Rattle.part.proofs.Columns.{refusedAt, outcome-going, notes-count, 
 use Rattle.part.proofs.Running.{outcome-refused}
 
 -- ---- which states are ready
-
-both : (a b : Bool) → a && b ≡ true → (a ≡ true) × (b ≡ true)
-both true b e = (refl, e)
-both false b e = let z : _≡_ {A = ℕ} 0 1 = ap (λ (x : Bool). elim x [ true ↦ 1 | false ↦ 0 ]) e in absurd (omega (arith, z))
 
 module _ (s : State) (fs : List Float) (is ls : List ℕ) (releases : ℕ) where
   pub ready-so : isReady s (length fs) (length is) (length ls) releases ≡ true → Ready s fs is ls × (releases ≤ instrumentsMost)
@@ -49,21 +46,6 @@ module _ (s : State) (fs : List Float) (is ls : List ℕ) (releases : ℕ) where
           deep = record { few = leb-true (s .depth) loopsMost (f .0); places = eqb-true (length ls) (2 * loopsMost) (i .0) };
         },
         leb-true releases instrumentsMost (i .1),
-      )
-
-  pub so-ready : Ready s fs is ls → releases ≤ instrumentsMost → isReady s (length fs) (length is) (length ls) releases ≡ true
-  unfolding isReady
-  so-ready r h =
-      rw (
-        eq-eqb (s .refusal) 0 (r .goes),
-        le-leb (s .env .octave) 8 (r .room .octave),
-        le-leb (s .others) notesMost (omega (arith, r .room .few)),
-        le-leb (s .count) (notesMost - s .others) (omega (arith, r .room .few)),
-        le-leb (s .depth) loopsMost (r .deep .few),
-        eq-eqb (length fs) (3 * notesMost) (r .room .floats),
-        eq-eqb (length is) notesMost (r .room .instruments),
-        eq-eqb (length ls) (2 * loopsMost) (r .deep .places),
-        le-leb releases instrumentsMost h,
       )
 
 -- ---- what comes of a line

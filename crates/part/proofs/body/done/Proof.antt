@@ -1,9 +1,10 @@
 -- `done` is what its callee does, for the item that each arm knows. Assumes nothing.
 use mathlib.Core.Path.{sym, ap, _∙_}
+use Rattle.sheet.proofs.Basics.{false-true}
 use Rattle.environment.specs.declared.command.Changed.the-variants.{To}
 use Rattle.environment.proofs.Changing.{octave-low, value-low, tempo-low, amplitude-low, key-low}
 use Rattle.items.specs.Written.{isCall}
-use Rattle.part.proofs.Doing.{written-note, written-up, written-down, written-opening, written-cut, written-closing, written-octave, written-value, written-tempo, written-amplitude, written-key, written-instrument, written-unknown, true-false, low-up, low-down, low-as, done-as, does-note, does-opening, does-cut, does-closing, does-up, does-down, does-octave, does-value, does-tempo, does-amplitude, does-key, does-unknown}
+use Rattle.part.proofs.Doing.{written-note, written-up, written-down, written-opening, written-cut, written-closing, written-octave, written-value, written-tempo, written-amplitude, written-key, written-instrument, written-unknown, low-up, low-down, low-as, done-as, does-note, does-opening, does-cut, does-closing, does-up, does-down, does-octave, does-value, does-tempo, does-amplitude, does-key, does-unknown}
 use borrow.Author.Needs.{needs}
 use Rattle.part.proofs.body.done.Statement.{statement}
 use Rattle.part.proofs.body.done.Tie as tie
@@ -175,7 +176,7 @@ returns-12 c ms inner = done-as _ _ _ _ _ _ _ _ _ _ _ _ _ (written-instrument _ 
 
 returns-13 : tie.Need-returns-13
 unfolding isCall
-returns-13 c ms inner = true-false (sym (c .before .before .before .before .before .before .before .before .before .before .pre .1 .0 .1) ∙ ap isCall (c .enum-told6 .given .1))
+returns-13 c ms inner = false-true (sym (c .before .before .before .before .before .before .before .before .before .before .pre .1 .0 .1) ∙ ap isCall (c .enum-told6 .given .1))
 
 returns-14 : tie.Need-returns-14
 returns-14 c ms inner = done-as _ _ _ _ _ _ _ _ _ _ _ _ _ (written-unknown _ _ _ _ (c .enum-told7 .given .1)) (does-unknown _ _ _ _ _ _ _ (c .before .before .before .before .before .before .before .before .before .before .pre .0))
