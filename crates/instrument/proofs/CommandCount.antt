@@ -10,7 +10,7 @@ use Rattle.instrument.specs.declared.machine.Command.{Command}
 use Rattle.instrument.specs.declared.machine.Command.the-variants as Command
 use Rattle.instrument.specs.Lines.{Line, outdent, downward, commandsOf}
 
-outdent-few : (before : Option ℕ) (i : ℕ) → length (outdent before i) ≤ 1
+pub outdent-few : (before : Option ℕ) (i : ℕ) → length (outdent before i) ≤ 1
 unfolding outdent
 outdent-few none i = omega arith
 outdent-few (some b) i = go (ltb i b)
@@ -19,7 +19,7 @@ outdent-few (some b) i = go (ltb i b)
     go true = omega arith
     go false = omega arith
 
-downward-few : (before : Option ℕ) (ls : List Line) → length (downward before ls) ≤ 2 * length ls
+pub downward-few : (before : Option ℕ) (ls : List Line) → length (downward before ls) ≤ 2 * length ls
 unfolding downward
 downward-few before [] = omega arith
 downward-few before (l ∷ ls) =

@@ -25,7 +25,8 @@ use Rattle.sheet.proofs.Holds.{Holds, holds-going, holds-unless, holds-then, ho
 use Rattle.operators.specs.OperatorLines.{operatorLines, operatorsRead}
 use Rattle.operators.proofs.Indents.{AllFit, all-fit}
 use Rattle.parser.proofs.Throughout.{KeptByLines, of-accepted}
-use Rattle.parser.specs.Layout.{padded, noCommand, instrumentOf}
+use Rattle.commands.specs.Commands.{noCommand, instrumentOf}
+use Rattle.sheet.specs.Padding.{padded}
 use Rattle.parser.specs.Sheets.{Read, readOf, plain, headerRead, directiveRead, macroRead, partRead, nothingRead, sheetRead}
 
 -- ---- a fact of every instrument

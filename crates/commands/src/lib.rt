@@ -1,0 +1,3 @@
+// From operator lines to an instrument: its commands in their array, and its release.
+
+pub mod layout;
