@@ -8,8 +8,8 @@ use native.Mathlib.Nat.{add-zero, mul-div-le}
 use native.Mathlib.Numerals.{add-one}
 use native.Mathlib.Omega.{arith}
 use borrow.Author.Tests.{lt-ltb, le-ltb}
-use lib.ListN.{length, replicate, drop, set, getD, length-append, length-map, length-reverse}
-use lib.Seq.{set-at, append-snoc, getD-drop, drop-drop}
+use lib.ListN.{length, drop, set, getD, length-append, length-map, length-reverse}
+use lib.Seq.{getD-drop, drop-drop}
 use lib.Ieee.{Float, nan, binary32, ofBits, lt}
 use Rattle.instrument.specs.declared.machine.Command.{Command}
 use Rattle.instrument.specs.declared.machine.Command.the-variants as Command
@@ -20,21 +20,11 @@ use Rattle.instrument.proofs.CommandCount.{outdent-few, downward-few}
 use Rattle.operators.specs.Blocks.{linesIn}
 use Rattle.commands.specs.declared.layout.Laid.{Laid}
 use Rattle.commands.specs.Commands.{noCommand, clipped, instrumentOf, linesHeld}
+use Rattle.sheet.proofs.Padded.{padded-set}
 use Rattle.sheet.specs.Padding.{padded}
 use Rattle.commands.specs.Laying.{linesFrom, operatorAt, above, put, puts, laid}
 
 -- ---- commands in their array
-
--- the first element behind a front
-padded-set : {A : Type 0} (n : ℕ) (z x : A) (xs : List A) → length xs < n → set (padded n z xs) (length xs) x ≡ padded n z (xs ++ (x ∷ []))
-unfolding padded
-padded-set n z x xs h =
-    let room : n - length xs ≡ suc (n - suc (length xs)) = omega arith in
-    let long : suc (length xs) ≡ length (xs ++ (x ∷ [])) = omega (arith, length-append xs (x ∷ [])) in
-    ap (λ (k : ℕ). set (xs ++ replicate k z) (length xs) x) room
-    ∙ set-at xs z (replicate (n - suc (length xs)) z) x (length xs) refl
-    ∙ sym (append-snoc xs x (replicate (n - suc (length xs)) z))
-    ∙ ap (λ (k : ℕ). (xs ++ (x ∷ [])) ++ replicate (n - k) z) long
 
 abbrev slots : List Command → List Slot
 slots cs = map (λ (c : Command). record { command = c }) cs

@@ -36,7 +36,7 @@ fn samples(seconds: f32, rate: u32) -> u64
 }
 
 // A number of a column: past its end 0.0.
-fn number_at(floats: &[f32], i: usize) -> f32
+pub(crate) fn number_at(floats: &[f32], i: usize) -> f32
     ensures { λ r. ⌜ r ≡ getD (now (floats .entry)) i plusZero ⌝ }
 {
     if i < floats.len() {

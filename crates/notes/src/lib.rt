@@ -1,4 +1,5 @@
 // Notes as they sound, from the environment of their part (the Rust's `part.rs`).
 
+pub mod array;
 pub mod length;
 pub mod note;

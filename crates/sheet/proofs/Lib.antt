@@ -1,3 +1,4 @@
 pub mod Basics
 pub mod Holds
 pub mod Outcomes
+pub mod Padded
