@@ -21,7 +21,7 @@ use Rattle.instrument.proofs.CommandCount.{commands-few}
 use Rattle.instrument.proofs.Demand3.{demand3-instrument}
 use Rattle.sheet.specs.Capacities.{commandsMost}
 use Rattle.sheet.specs.Refusals.{going}
-use Rattle.sheet.proofs.Holds.{Holds, holds-going, holds-unless, holds-then, holds-after}
+use Rattle.sheet.proofs.Holds.{Holds, holds-going, holds-then, holds-after}
 use Rattle.operators.specs.OperatorLines.{operatorLines, operatorsRead}
 use Rattle.operators.proofs.Indents.{AllFit, all-fit}
 use Rattle.parser.proofs.Throughout.{KeptByLines, of-accepted}
@@ -56,12 +56,11 @@ plain-fits = record { indents = tt; few = omega arith }
 header-kept : (line : ℕ) (name : List ℕ) (below : List (List ℕ)) (r : Read) → Kept r → Holds Kept (headerRead line name below r)
 unfolding headerRead
 header-kept line name below r g =
-    holds-unless _ _ _ _ _
-    (λ e. holds-unless _ _ _ _ _
-    (λ f. holds-then (AllFit none 0) Kept (operatorsRead none (line + 1) 0 (operatorLines below))
-    (λ os. going (readOf (r .start) (r .parts) (r .macros) (r .names ++ (name ∷ [])) (r .instruments ++ (os ∷ [])) (r .steps)))
+    holds-after _ _ _
+    (λ n. holds-then (AllFit none 0) Kept (operatorsRead none (line + 1) 0 (operatorLines below))
+    (λ os. going (readOf (r .start) (r .parts) (r .macros) (r .names ++ (n ∷ [])) (r .instruments ++ (os ∷ [])) (r .steps)))
     (all-fit none (line + 1) 0 (operatorLines below) (omega arith))
-    (λ os k. holds-going Kept _ (every-last (AllFit none 0) (r .instruments) os g k))))
+    (λ os k. holds-going Kept _ (every-last (AllFit none 0) (r .instruments) os g k)))
 
 directive-kept : (line : ℕ) (l : List ℕ) (r : Read) → Kept r → Holds Kept (directiveRead line l r)
 unfolding directiveRead
@@ -69,7 +68,7 @@ directive-kept line l r g = holds-after _ _ _ (λ f. holds-going Kept _ g)
 
 macro-kept : (line : ℕ) (l : List ℕ) (r : Read) → Kept r → Holds Kept (macroRead line l r)
 unfolding macroRead
-macro-kept line l r g = holds-after _ _ _ (λ n. holds-unless _ _ _ _ _ (λ e. holds-unless _ _ _ _ _ (λ f. holds-going Kept _ g)))
+macro-kept line l r g = holds-after _ _ _ (λ m. holds-going Kept _ g)
 
 part-kept : (rate line : ℕ) (n : Option Named) (r : Read) → Kept r → Holds Kept (partRead rate line n r)
 unfolding partRead

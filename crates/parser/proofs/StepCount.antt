@@ -6,7 +6,7 @@ use Prim.Native.Nat.{ℕ, _≤_}
 use native.Mathlib.Omega.{arith}
 use Rattle.sheet.specs.Capacities.{stepsMost}
 use Rattle.sheet.specs.Refusals.{going}
-use Rattle.sheet.proofs.Holds.{Holds, holds-going, holds-unless, holds-then, holds-after}
+use Rattle.sheet.proofs.Holds.{Holds, holds-going, holds-then, holds-after}
 use Rattle.text.specs.Tokens.{Named}
 use Rattle.part.specs.Body.{bodyRead}
 use Rattle.part.proofs.StepCount.{Counted, body-counted}
@@ -19,7 +19,7 @@ Kept r = r .steps ≤ stepsMost
 
 header-kept : (line : ℕ) (name : List ℕ) (below : List (List ℕ)) (r : Read) → Kept r → Holds Kept (headerRead line name below r)
 unfolding headerRead
-header-kept line name below r g = holds-unless _ _ _ _ _ (λ e. holds-unless _ _ _ _ _ (λ f. holds-after _ _ _ (λ os. holds-going Kept _ g)))
+header-kept line name below r g = holds-after _ _ _ (λ n. holds-after _ _ _ (λ os. holds-going Kept _ g))
 
 directive-kept : (line : ℕ) (l : List ℕ) (r : Read) → Kept r → Holds Kept (directiveRead line l r)
 unfolding directiveRead
@@ -27,7 +27,7 @@ directive-kept line l r g = holds-after _ _ _ (λ f. holds-going Kept _ g)
 
 macro-kept : (line : ℕ) (l : List ℕ) (r : Read) → Kept r → Holds Kept (macroRead line l r)
 unfolding macroRead
-macro-kept line l r g = holds-after _ _ _ (λ n. holds-unless _ _ _ _ _ (λ e. holds-unless _ _ _ _ _ (λ f. holds-going Kept _ g)))
+macro-kept line l r g = holds-after _ _ _ (λ m. holds-going Kept _ g)
 
 part-kept : (rate line : ℕ) (n : Option Named) (r : Read) → Kept r → Holds Kept (partRead rate line n r)
 unfolding partRead

@@ -12,12 +12,13 @@ use Rattle.text.specs.Characters.{same, rowOf}
 use Rattle.text.specs.Lines.{linesOf}
 use Rattle.text.specs.Tokens.{Named, namedOf}
 use Rattle.instrument.specs.Lines.{Line, releaseOf}
-use Rattle.sheet.specs.Capacities.{sourceMost, partsMost, macrosMost, instrumentsMost, sheetMost}
-use Rattle.sheet.specs.Refusals.{Outcome, going, _>>=_, _>>_, refuse_on_unless_, refuse_on_if_, refuse_on_without_}
+use Rattle.sheet.specs.Capacities.{sourceMost, partsMost, sheetMost}
+use Rattle.sheet.specs.Refusals.{Outcome, going, _>>=_, _>>_, refuse_on_unless_, refuse_on_if_}
 use Rattle.environment.specs.declared.environment.Environment.{Environment}
 use Rattle.environment.specs.Environment.{atTheStart}
 use Rattle.operators.specs.OperatorLines.{operatorLines, operatorsRead}
-use Rattle.part.specs.Body.{Part, Macro, Book, bodyRead, macroNamed, placeOf}
+use Rattle.part.specs.Body.{Part, Macro, Book, bodyRead}
+use Rattle.tables.specs.Tables.{macroOf, headerOf}
 use Rattle.notes.specs.Lengths.{endOf}
 use Rattle.directive.specs.Directives.{directiveOf}
 
@@ -58,20 +59,15 @@ unfoldable pub bookOf : ℕ → Read → Book
 unfolding releaseOf
 bookOf rate r = record { macros = r .macros; names = r .names; releases = map releaseOf (r .instruments); rate = rate }
 
-unfoldable pub isNone : {A : Type 0} → Option A → Bool
-isNone none = true
-isNone (some x) = false
-
 -- ---- instruments
 
 -- "`@` opens an instrument, its name the entire line, trailing blanks included."; "Instrument header: 3, 21."
 unfoldable pub headerRead : ℕ → List ℕ → List (List ℕ) → Read → Outcome Read
-unfolding isNone placeOf operatorLines operatorsRead
+unfolding headerOf operatorLines operatorsRead
 headerRead line name below r = do
-  refuse 3 on line unless (isNone (placeOf name 1 (r .names)))
-  refuse 21 on line unless (ltb (length (r .instruments)) instrumentsMost)
+  n ← headerOf line name (r .names)
   os ← operatorsRead none (line + 1) 0 (operatorLines below)
-  going (readOf (r .start) (r .parts) (r .macros) (r .names ++ (name ∷ [])) (r .instruments ++ (os ∷ [])) (r .steps))
+  going (readOf (r .start) (r .parts) (r .macros) (r .names ++ (n ∷ [])) (r .instruments ++ (os ∷ [])) (r .steps))
 
 -- ---- directives
 
@@ -91,12 +87,9 @@ directiveRead line l r = do
 
 -- "Macro line: 5, 4, 21."
 unfoldable pub macroRead : ℕ → List ℕ → Read → Outcome Read
-unfolding namedOf isNone macroNamed
+unfolding macroOf
 macroRead line l r = do
-  n ← refuse 5 on line without (namedOf l)
-  refuse 4 on line unless (isNone (macroNamed (n .name) (r .macros)))
-  refuse 21 on line unless (ltb (length (r .macros)) macrosMost)
-  let m : Macro = record { name = n .name; body = n .body; line = line }
+  m ← macroOf line l (r .macros)
   going (readOf (r .start) (r .parts) (r .macros ++ (m ∷ [])) (r .names) (r .instruments) (r .steps))
 
 -- ---- parts

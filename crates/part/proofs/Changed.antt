@@ -67,7 +67,7 @@ module _ (name : List ℕ) where
   place-here x xs n e = rw (e, placeOf)
 
   -- the place of a name by how many stand before it
-  place-found : (xs : List (List ℕ)) (n : ℕ) → placeAmong name xs < length xs → placeOf name n xs ≡ some (placeAmong name xs + n)
+  pub place-found : (xs : List (List ℕ)) (n : ℕ) → placeAmong name xs < length xs → placeOf name n xs ≡ some (placeAmong name xs + n)
   place-found [] n h = absurd (omega (arith, h))
   place-found (x ∷ xs) n h = go (same name x) refl (place-found xs (n + 1))
     where
@@ -76,7 +76,7 @@ module _ (name : List ℕ) where
       go true e ih = place-here x xs n e ∙ ap some (omega (arith, among-here name x xs e))
       go false e ih = place-past x xs n e ∙ ih (omega (arith, h, among-past name x xs e)) ∙ ap some (omega (arith, among-past name x xs e))
 
-  place-none : (xs : List (List ℕ)) (n : ℕ) → length xs ≤ placeAmong name xs → placeOf name n xs ≡ none
+  pub place-none : (xs : List (List ℕ)) (n : ℕ) → length xs ≤ placeAmong name xs → placeOf name n xs ≡ none
   unfolding placeOf
   place-none [] n h = refl
   place-none (x ∷ xs) n h = go (same name x) refl (place-none xs (n + 1))

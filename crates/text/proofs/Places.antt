@@ -1,13 +1,13 @@
 -- Names as places in a text: what a table holds from a place on, how a search through it goes on, and that places past the text's end are cut there without a
--- change of what they mean. Assumes nothing.
-use mathlib.Core.Path.{_≡_, refl, sym, ap, _∙_}
+-- change of what they mean; and a part of a part. Assumes nothing.
+use mathlib.Core.Path.{_≡_, refl, sym, ap, ap₂, _∙_}
 use mathlib.Core.Bool.{Bool, true, false}
 use mathlib.Core.List.{List, [], _∷_}
-use Prim.Native.Nat.{ℕ, suc, _+_, _-_, _*_, _≤_, _<_, min}
+use Prim.Native.Nat.{ℕ, zero, suc, _+_, _-_, _*_, _≤_, _<_, min}
 use native.Mathlib.Omega.{arith}
 use lib.Dec.{leb}
 use lib.ListN.{length, take, drop, getD, length-drop, drop-of-length-le}
-use lib.Seq.{drop-cons, take-all, take-nil}
+use lib.Seq.{drop-cons, drop-drop, take-all, take-nil, take-take}
 use borrow.Author.Tests.{leb-true, leb-false}
 use Rattle.text.specs.Characters.{same}
 use Rattle.text.specs.Names.{between, namesIn, placeAmong}
@@ -43,6 +43,25 @@ clamped s b e to from false h q r =
 
 pub between-cut : (s : List ℕ) (b e to from : ℕ) → to ≡ min e (length s) → from ≡ min b to → between s from to ≡ between s b e
 between-cut s b e to from q r = clamped s b e to from (leb b to) refl q r
+
+-- ---- parts of parts
+
+drop-taken : (c n : ℕ) (l : List ℕ) → drop c (take n l) ≡ take (n - c) (drop c l)
+drop-taken zero n l = ap (λ (k : ℕ). take k l) (let z : n ≡ n - 0 = omega arith in z)
+drop-taken (suc c) zero l = ap (λ (k : ℕ). take k (drop (suc c) l)) (let z : 0 ≡ 0 - suc c = omega arith in z)
+drop-taken (suc c) (suc n) [] = sym (take-nil (suc n - suc c))
+drop-taken (suc c) (suc n) (x ∷ xs) = drop-taken c n xs ∙ ap (λ (k : ℕ). take k (drop c xs)) (let z : n - c ≡ suc n - suc c = omega arith in z)
+
+pub between-rest : (s : List ℕ) (a e c : ℕ) → drop c (between s a e) ≡ between s (a + c) e
+between-rest s a e c =
+    drop-taken c (e - a) (drop a s)
+    ∙ ap₂ (λ (k : ℕ) (l : List ℕ). take k l) (let z : e - a - c ≡ e - (a + c) = omega arith in z) (drop-drop c a s)
+
+pub between-part : (s : List ℕ) (a e b c : ℕ) → a + c ≤ e → between (between s a e) b c ≡ between s (a + b) (a + c)
+between-part s a e b c h =
+    ap (take (c - b)) (between-rest s a e b)
+    ∙ take-take (c - b) (e - (a + b)) (drop (a + b) s) (omega (arith, h))
+    ∙ ap (λ (k : ℕ). take k (drop (a + b) s)) (let z : c - b ≡ a + c - (a + b) = omega arith in z)
 
 -- ---- a table from a place on
 

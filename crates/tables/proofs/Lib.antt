@@ -1,0 +1,6 @@
+pub mod Entries
+pub mod HeaderLines
+pub mod MacroLines
+pub mod MacrosGrown
+pub mod NamesGrown
+pub mod Taken
