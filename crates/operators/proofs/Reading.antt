@@ -13,7 +13,7 @@ use lib.ListN.{length, take, drop, drop-of-length-le}
 use lib.Seq.{append-snoc, drop-drop}
 use lib.Ieee.{Float}
 use borrow.Author.Tests.{le-leb, lt-leb}
-use Rattle.text.specs.Lines.{linesOf}
+use Rattle.text.specs.Lines.{linesOf, lineWidth, behindLines}
 use Rattle.text.specs.Tokens.{tokensOf}
 use Rattle.text.proofs.LinePlaces.{Lined}
 use Rattle.number.specs.declared.digits.Int.{Int}
@@ -103,15 +103,17 @@ pub record Reading (source : List ℕ) (at : ℕ) (fs₀ : List Float) (ss₀ : 
   pub few : count ≤ 32
   pub onward : at ≤ place
   pub inside : at ≤ length source → place ≤ length source
+  pub behind : place ≡ behindLines count source at
   pub lines : linesOf (drop place source) ≡ drop count (linesOf (drop at source))
   pub means : (line : ℕ)
       → operatorsRead none line 0 (operatorLines (linesOf (drop at source)))
       ≡ _>>=_ (operatorsRead (indentAbove count before) (line + count) count (operatorLines (linesOf (drop place source)))) (λ os. going (linesIn count fs ss ++ os))
 
 pub reading-start : (source : List ℕ) (at : ℕ) (fs : List Float) (ss : List ℕ) → 192 ≤ length fs → 64 ≤ length ss → Reading source at fs ss fs ss at 0 0
-unfolding indentAbove linesIn
+unfolding indentAbove linesIn behindLines
 reading-start source at fs ss h k =
     record {
+      behind = refl;
       wide = h;
       high = k;
       floats = refl;
@@ -129,14 +131,15 @@ reading-start source at fs ss h k =
 abbrev Answered : List ℕ → ℕ → List Float → List ℕ → List Float → List ℕ → Block → Type 0
 Answered source at fs₀ ss₀ fs ss b =
     ((line : ℕ) → blockOutcome line b fs ss ≡ blockRead line (drop at source) (length fs₀) (length ss₀))
+    × ((b .next ≡ behindLines (b .count) source at)
     × ((b .refusal ≡ 0 → linesOf (drop (b .next) source) ≡ drop (b .count) (linesOf (drop at source)))
-    × ((at ≤ b .next) × (at ≤ length source → b .next ≤ length source)))
+    × ((at ≤ b .next) × (at ≤ length source → b .next ≤ length source))))
 
 module _ (source : List ℕ) (at : ℕ) (fs : List Float) (ss : List ℕ) where
   answered-narrow : (leb 192 (length fs) && leb 64 (length ss)) ≡ false → Answered source at fs ss fs ss (record { count = 0; next = at; refusal = 21 })
-  unfolding blockOutcome blockRead
+  unfolding blockOutcome blockRead behindLines
   answered-narrow e =
-      (λ line. ap (refused 21) (add-zero line) ∙ sym (rw (e, blockRead)), ((λ z. absurd (omega (arith, z))), (omega arith, λ i. i)))
+      (λ line. ap (refused 21) (add-zero line) ∙ sym (rw (e, blockRead)), (refl, ((λ z. absurd (omega (arith, z))), (omega arith, λ i. i))))
 
   pub narrow-numbers : length fs < 192 → Answered source at fs ss fs ss (record { count = 0; next = at; refusal = 21 })
   narrow-numbers h = answered-narrow (rw (lt-leb 192 (length fs) h))
@@ -162,7 +165,7 @@ module _ (source : List ℕ) (at : ℕ) (fs₀ : List Float) (ss₀ : List ℕ) 
         (block-means line
         ∙ then-going [] _ _ (ap (operatorsRead (indentAbove count before) (line + count) count) e)
         ∙ ap going (append-nil (linesIn count fs ss))),
-    ((λ z. r .lines), (r .onward, r .inside)),
+    (r .behind, ((λ z. r .lines), (r .onward, r .inside))),
   )
 
   pub answered-end : length source ≤ place → Answered source at fs₀ ss₀ fs ss (record { count = count; next = place; refusal = 0 })
@@ -195,7 +198,7 @@ module _ (source : List ℕ) (at : ℕ) (fs₀ : List Float) (ss₀ : List ℕ) 
             (block-means line
             ∙ then-refused (suc n) (line + count) _ _
             (ap (operatorsRead (indentAbove count before) (line + count) count) here ∙ then-refused (suc n) (line + count) _ _ (sym (q (line + count))))),
-        ((λ z. absurd (omega (arith, z))), (r .onward, r .inside)),
+        (r .behind, ((λ z. absurd (omega (arith, z))), (r .onward, r .inside))),
       )
 
       module _ (tabs : ℕ) (o : Operator)
@@ -212,7 +215,7 @@ module _ (source : List ℕ) (at : ℕ) (fs₀ : List Float) (ss₀ : List ℕ) 
         pub reading-more : (gs : List Float) (ts : List ℕ) → length gs ≡ length fs → length ts ≡ length ss
             → linesIn (count + 1) gs ts ≡ linesIn count fs ss ++ (record { indent = tabs; op = o } ∷ [])
             → Reading source at fs₀ ss₀ gs ts next (count + 1) tabs
-        unfolding operatorsRead
+        unfolding operatorsRead behindLines
         reading-more gs ts a b k =
             record {
               wide = r .wide;
@@ -222,6 +225,9 @@ module _ (source : List ℕ) (at : ℕ) (fs₀ : List Float) (ss₀ : List ℕ) 
               few = omega (arith, line-room);
               onward = omega (arith, r .onward, l .onward);
               inside = λ i. l .inside;
+              behind =
+                  l .width ∙ ap (λ (p : ℕ). p + lineWidth (drop p source)) (r .behind)
+                  ∙ ap (λ (n : ℕ). behindLines n source at) (let w : suc count ≡ count + 1 = omega arith in w);
               lines =
                   ap (drop 1) (sym below)
                   ∙ ap (drop 1) (r .lines)

@@ -4,7 +4,7 @@ ghost use mathlib.Core.Path.{_≡_};
 ghost use mathlib.Core.List.{[], _∷_, _++_};
 ghost use Prim.Native.Nat.{ℕ, _+_, _≤_, _<_};
 ghost use lib.ListN.{length, drop};
-ghost use Rattle.text.specs.Lines.{linesOf};
+ghost use Rattle.text.specs.Lines.{linesOf, behindLines};
 ghost use Rattle.operators.specs.OperatorLines.{ends};
 ghost use Rattle.operators.specs.Blocks.{linesIn, blockRead, blockOutcome};
 use crate::line::OperatorLine;
@@ -59,6 +59,7 @@ fn put(numbers: &mut [f32], shape: &mut [usize], n: usize, tabs: usize, op: Oper
 // The operator lines from place `at` of a source on. Where the columns have no room for 32 operators, 21.
 pub fn read_block(source: &[u8], at: usize, numbers: &mut [f32], shape: &mut [usize]) -> Block
     ensures read { λ r. ⌜ ((line : ℕ) → blockOutcome line r (now (numbers .exit)) (now (shape .exit)) ≡ blockRead line (drop at (now (source .entry))) (length (now (numbers .entry))) (length (now (shape .entry)))) ⌝ }
+    ensures place { λ r. ⌜ r .next ≡ behindLines (r .count) (now (source .entry)) at ⌝ }
     ensures onward { λ r. ⌜ (r .refusal ≡ 0 → linesOf (drop (r .next) (now (source .entry))) ≡ drop (r .count) (linesOf (drop at (now (source .entry))))) ⌝ }
     ensures within { λ r. ⌜ (at ≤ r .next) × (at ≤ length (now (source .entry)) → r .next ≤ length (now (source .entry))) ⌝ }
 {

@@ -64,6 +64,7 @@ pub record Lined (s : List ℕ) (i end next : ℕ) : Type 0 where
   pub within : end ≤ length s
   pub onward : i < next
   pub inside : next ≤ length s
+  pub width : next ≡ i + lineWidth (drop i s)
   pub line : take (end - i) (drop i s) ≡ lineOf (drop i s)
   pub lines : linesOf (drop i s) ≡ lineOf (drop i s) ∷ linesOf (drop next s)
 
@@ -83,6 +84,7 @@ line-placed s i a e h =
       within = omega arith;
       onward = omega arith;
       inside = omega arith;
+      width = q;
       line = ap (λ (n : ℕ). take n t) k ∙ line-front t;
       lines =
           lines-cons t (omega arith)

@@ -2,7 +2,7 @@
 -- other. Assumes nothing.
 use mathlib.Core.Bool.{Bool, true, false, not, _&&_}
 use mathlib.Core.List.{List, [], _∷_}
-use Prim.Native.Nat.{ℕ, _+_}
+use Prim.Native.Nat.{ℕ, zero, suc, _+_}
 use lib.Dec.{eqb}
 use lib.ListN.{length, drop}
 use Rattle.text.specs.declared.lines.Line.{Line}
@@ -69,6 +69,12 @@ behindLf (b ∷ s) = s
 unfoldable pub linesBelow : List ℕ → List ℕ
 unfolding after isNotLf behindLf
 linesBelow s = behindLf (after isNotLf s)
+
+-- the place behind the n lines that begin at place i of a text
+unfoldable pub behindLines : ℕ → List ℕ → ℕ → ℕ
+unfolding lineWidth
+behindLines zero s i = i
+behindLines (suc n) s i = behindLines n s i + lineWidth (drop (behindLines n s i) s)
 
 -- where the line at place i of a text ends, and where the next one begins
 unfoldable pub lineAt : List ℕ → ℕ → Line
