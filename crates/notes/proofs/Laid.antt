@@ -1,8 +1,8 @@
 -- The notes of two columns laid into an array one by one: the first i of them stand in front, and notes that say nothing behind. Assumes nothing.
 use mathlib.Core.Path.{_≡_, refl, sym, ap, ap₂, _∙_}
 use mathlib.Core.List.{List, [], _∷_, _++_}
-use Prim.Native.Nat.{ℕ, suc, _+_, _-_, _*_, _<_}
-use native.Mathlib.Nat.{le-of-lt}
+use Prim.Native.Nat.{ℕ, _+_, _-_, _*_, _<_}
+use native.Mathlib.Nat.{add-zero, le-of-lt}
 use native.Mathlib.Numerals.{add-one}
 use native.Mathlib.Omega.{arith}
 use lib.ListN.{length, take, drop, set, getD}
@@ -13,31 +13,19 @@ use Rattle.sheet.specs.declared.note.Note.{Note}
 use Rattle.sheet.proofs.Padded.{padded-set}
 use Rattle.sheet.specs.Padding.{padded, silence}
 use Rattle.notes.specs.Columns.{notesIn}
+use Rattle.notes.proofs.Columns.{notes-length, notes-append}
 
 -- the note of three numbers from the place k on
 abbrev note-from : List Float → ℕ → ℕ → Note
 note-from fs k j = record { amplitude = getD fs k plusZero; frequency = getD fs (k + 1) plusZero; duration = getD fs (k + 2) plusZero; instrument = j }
 
-note-behind : (fs : List Float) (k j : ℕ) → note-from (drop 3 fs) k j ≡ note-from fs (3 + k) j
-note-behind fs k j =
-    let one : 3 + (k + 1) ≡ 3 + k + 1 = omega arith in
-    let two : 3 + (k + 2) ≡ 3 + k + 2 = omega arith in
-    rw (getD-drop 3 fs k plusZero, getD-drop 3 fs (k + 1) plusZero, getD-drop 3 fs (k + 2) plusZero, one, two)
-
-notes-many : (fs : List Float) (is : List ℕ) → length (notesIn fs is) ≡ length is
-unfolding notesIn
-notes-many fs [] = refl
-notes-many fs (i ∷ is) = ap suc (notes-many (drop 3 fs) is)
-
 -- one note more at the end
 notes-snoc : (fs : List Float) (is : List ℕ) (j : ℕ) → notesIn fs (is ++ (j ∷ [])) ≡ notesIn fs is ++ (note-from fs (3 * length is) j ∷ [])
 unfolding notesIn
-notes-snoc fs [] j = refl
-notes-snoc fs (i ∷ is) j =
-    let place : 3 + 3 * length is ≡ 3 * suc (length is) = omega arith in
-    ap (λ (ns : List Note). note-from fs 0 i ∷ ns)
-    (notes-snoc (drop 3 fs) is j
-    ∙ ap (λ (n : Note). notesIn (drop 3 fs) is ++ (n ∷ [])) (note-behind fs (3 * length is) j ∙ ap (λ (k : ℕ). note-from fs k j) place))
+notes-snoc fs is j =
+    let k = 3 * length is in
+    let here : note-from (drop k fs) 0 j ≡ note-from fs k j = rw (getD-drop k fs 0 plusZero, getD-drop k fs 1 plusZero, getD-drop k fs 2 plusZero, add-zero k) in
+    notes-append fs is (j ∷ []) ∙ ap (λ (n : Note). notesIn fs is ++ (n ∷ [])) here
 
 -- the first i notes are laid
 unfoldable pub laid : List Float → List ℕ → ℕ → List Note
@@ -53,7 +41,7 @@ unfolding laid
 laid-more fs is i ns n h k e f =
     let front = notesIn fs (take i is) in
     let there : length (take i is) ≡ i = length-take-le i is (le-of-lt h) in
-    let many : length front ≡ i = notes-many fs (take i is) ∙ there in
+    let many : length front ≡ i = notes-length fs (take i is) ∙ there in
     let next : front ++ (n ∷ []) ≡ notesIn fs (take (i + 1) is) =
     ap (λ (m : Note). front ++ (m ∷ [])) (f ∙ ap (λ (j : ℕ). note-from fs (3 * j) (getD is i 0)) (sym there))
     ∙ sym (notes-snoc fs (take i is) (getD is i 0))

@@ -1,3 +1,4 @@
+pub mod Columns
 pub mod Ends
 pub mod Laid
 pub mod Letters

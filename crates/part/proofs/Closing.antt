@@ -22,7 +22,8 @@ use Rattle.part.specs.declared.state.State.{State}
 use Rattle.part.specs.Body.{Progress, Book, withNotes, opened, cutHere, closed}
 use Rattle.notes.specs.Columns.{notesIn}
 use Rattle.part.specs.Columns.{loopsIn, progressOf, Room, Deep, Becomes}
-use Rattle.part.proofs.Columns.{notes-front, notes-count, loops-count, refused-becomes, going-becomes, refusedAt, withCounts}
+use Rattle.notes.proofs.Columns.{notes-front}
+use Rattle.part.proofs.Columns.{notes-count, loops-count, refused-becomes, going-becomes, refusedAt, withCounts}
 use Rattle.part.proofs.Played.{notes-repeated}
 
 -- ---- the column of the loops

@@ -13,7 +13,7 @@ use Rattle.loops.specs.Loops.{copies}
 use Rattle.loops.specs.Again.{laidAgain}
 use Rattle.loops.proofs.Repeats.{copies-length, laid-passes}
 use Rattle.notes.specs.Columns.{notesIn}
-use Rattle.part.proofs.Columns.{notes-append, notes-front}
+use Rattle.notes.proofs.Columns.{notes-append, notes-front}
 
 notes-take : (k : ℕ) (fs : List Float) (is : List ℕ) → notesIn fs (take k is) ≡ take k (notesIn fs is)
 unfolding notesIn

@@ -9,7 +9,7 @@ use Rattle.text.specs.Names.{between, namesIn}
 use Rattle.sheet.specs.Refusals.{Outcome, going, refused}
 use Rattle.part.specs.Body.{Macro}
 use Rattle.part.specs.Columns.{macrosIn}
-use Rattle.tables.specs.Tables.{withEntry}
+use Rattle.tables.specs.Tables.{withEntry, numberOf}
 
 -- ---- one more entry
 
@@ -50,3 +50,8 @@ given x (refused n l) = x
 pub same-given : {A : Type 0} (x y : A) → going x ≡ going y → x ≡ y
 unfolding given
 same-given x y e = ap (given x) e
+
+-- an outcome that goes on has no number of a refusal
+pub not-refused : {A B : Type 0} (o : Outcome A) (x : A) → o ≡ going x → (n : ℕ) → 0 < n → n ≡ numberOf o → B
+unfolding numberOf
+not-refused o x g n h e = let z : numberOf o ≡ 0 = ap numberOf g in absurd (omega (arith, h, e, z))

@@ -16,7 +16,7 @@ use Rattle.sheet.specs.Refusals.{Outcome, going}
 use Rattle.part.specs.Body.{Macro}
 use Rattle.part.specs.Columns.{macrosIn}
 use Rattle.tables.specs.Tables.{macroLine, numberOf, namesAfter, bodiesAfter, lineFrom, lineEnd}
-use Rattle.tables.proofs.Entries.{entry-last, macros-last, same-given}
+use Rattle.tables.proofs.Entries.{entry-last, macros-last, same-given, not-refused}
 use Rattle.tables.proofs.MacroLines.{name-ends, macro-many, macro-unnamed, macro-bare, macro-five, macro-taken, macro-full, macro-going, macro-new}
 
 module _ (line : ℕ) (s : List ℕ) (from end count : ℕ) (names bodies : List ℕ) (m : Macro) (g : macroLine line s from end count names bodies ≡ going m) where
@@ -31,8 +31,7 @@ module _ (line : ℕ) (s : List ℕ) (from end count : ℕ) (names bodies : List
 
   -- it was not refused
   never : (n : ℕ) → 0 < n → n ≡ numberOf outcome → Grown
-  unfolding numberOf
-  never n h e = let z : numberOf outcome ≡ 0 = ap numberOf g in absurd (omega (arith, h, e, z))
+  never n h e = not-refused outcome m g n h e
 
   abbrev begin : ℕ
   begin = lineFrom s from end

@@ -12,7 +12,7 @@ use Rattle.text.specs.Names.{between, namesIn, placeAmong}
 use Rattle.text.proofs.Places.{between-cut}
 use Rattle.sheet.specs.Refusals.{Outcome, going}
 use Rattle.tables.specs.Tables.{headerLine, numberOf, headersAfter, lineFrom, lineEnd}
-use Rattle.tables.proofs.Entries.{entry-last, names-last, same-given}
+use Rattle.tables.proofs.Entries.{entry-last, names-last, same-given, not-refused}
 use Rattle.tables.proofs.HeaderLines.{header-many, header-unnamed, header-taken, header-full, header-going, header-new}
 
 module _ (line : ℕ) (s : List ℕ) (from end count : ℕ) (names x : List ℕ) (g : headerLine line s from end count names ≡ going x) where
@@ -25,8 +25,7 @@ module _ (line : ℕ) (s : List ℕ) (from end count : ℕ) (names x : List ℕ)
 
   -- it was not refused
   never : (n : ℕ) → 0 < n → n ≡ numberOf outcome → Grown
-  unfolding numberOf
-  never n h e = let z : numberOf outcome ≡ 0 = ap numberOf g in absurd (omega (arith, h, e, z))
+  never n h e = not-refused outcome x g n h e
 
   abbrev begin : ℕ
   begin = lineFrom s from end
