@@ -15,7 +15,7 @@ use Rattle.sheet.proofs.Holds.{Holds, holds-going, holds-unless, holds-then, ho
 use Rattle.operators.specs.OperatorLines.{indented, indentOf, operatorRead, operatorsRead}
 
 -- behind the test of an indent
-holds-indented : {A : Type 0} (P : A → Type 0) (line : ℕ) (before : Option ℕ) (i : ℕ) (rest : Outcome A) → (indentRefusal before i ≡ 0 → Holds P rest)
+pub holds-indented : {A : Type 0} (P : A → Type 0) (line : ℕ) (before : Option ℕ) (i : ℕ) (rest : Outcome A) → (indentRefusal before i ≡ 0 → Holds P rest)
     → Holds P (_>>_ (indented line before i) rest)
 unfolding indented _>>_ Holds
 holds-indented P line before i rest h = go (indentRefusal before i) refl

@@ -133,13 +133,13 @@ Answered source at fs₀ ss₀ fs ss b =
     ((line : ℕ) → blockOutcome line b fs ss ≡ blockRead line (drop at source) (length fs₀) (length ss₀))
     × ((b .next ≡ behindLines (b .count) source at)
     × ((b .refusal ≡ 0 → linesOf (drop (b .next) source) ≡ drop (b .count) (linesOf (drop at source)))
-    × ((at ≤ b .next) × (at ≤ length source → b .next ≤ length source))))
+    × (((at ≤ b .next) × (at ≤ length source → b .next ≤ length source)) × (b .count ≤ 32))))
 
 module _ (source : List ℕ) (at : ℕ) (fs : List Float) (ss : List ℕ) where
   answered-narrow : (leb 192 (length fs) && leb 64 (length ss)) ≡ false → Answered source at fs ss fs ss (record { count = 0; next = at; refusal = 21 })
   unfolding blockOutcome blockRead behindLines
   answered-narrow e =
-      (λ line. ap (refused 21) (add-zero line) ∙ sym (rw (e, blockRead)), (refl, ((λ z. absurd (omega (arith, z))), (omega arith, λ i. i))))
+      (λ line. ap (refused 21) (add-zero line) ∙ sym (rw (e, blockRead)), (refl, ((λ z. absurd (omega (arith, z))), ((omega arith, λ i. i), omega arith))))
 
   pub narrow-numbers : length fs < 192 → Answered source at fs ss fs ss (record { count = 0; next = at; refusal = 21 })
   narrow-numbers h = answered-narrow (rw (lt-leb 192 (length fs) h))
@@ -165,7 +165,7 @@ module _ (source : List ℕ) (at : ℕ) (fs₀ : List Float) (ss₀ : List ℕ) 
         (block-means line
         ∙ then-going [] _ _ (ap (operatorsRead (indentAbove count before) (line + count) count) e)
         ∙ ap going (append-nil (linesIn count fs ss))),
-    (r .behind, ((λ z. r .lines), (r .onward, r .inside))),
+    (r .behind, ((λ z. r .lines), ((r .onward, r .inside), r .few))),
   )
 
   pub answered-end : length source ≤ place → Answered source at fs₀ ss₀ fs ss (record { count = count; next = place; refusal = 0 })
@@ -198,7 +198,7 @@ module _ (source : List ℕ) (at : ℕ) (fs₀ : List Float) (ss₀ : List ℕ) 
             (block-means line
             ∙ then-refused (suc n) (line + count) _ _
             (ap (operatorsRead (indentAbove count before) (line + count) count) here ∙ then-refused (suc n) (line + count) _ _ (sym (q (line + count))))),
-        (r .behind, ((λ z. absurd (omega (arith, z))), (r .onward, r .inside))),
+        (r .behind, ((λ z. absurd (omega (arith, z))), ((r .onward, r .inside), r .few))),
       )
 
       module _ (tabs : ℕ) (o : Operator)

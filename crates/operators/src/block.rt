@@ -62,6 +62,7 @@ pub fn read_block(source: &[u8], at: usize, numbers: &mut [f32], shape: &mut [us
     ensures place { λ r. ⌜ r .next ≡ behindLines (r .count) (now (source .entry)) at ⌝ }
     ensures onward { λ r. ⌜ (r .refusal ≡ 0 → linesOf (drop (r .next) (now (source .entry))) ≡ drop (r .count) (linesOf (drop at (now (source .entry))))) ⌝ }
     ensures within { λ r. ⌜ (at ≤ r .next) × (at ≤ length (now (source .entry)) → r .next ≤ length (now (source .entry))) ⌝ }
+    ensures few { λ r. ⌜ r .count ≤ 32 ⌝ }
 {
     let mut place = at;
     let mut count = 0;
