@@ -1,4 +1,3 @@
 pub mod Columns
 pub mod Ends
-pub mod Laid
 pub mod Letters

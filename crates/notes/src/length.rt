@@ -36,7 +36,7 @@ fn samples(seconds: f32, rate: u32) -> u64
 }
 
 // A number of a column: past its end 0.0.
-pub(crate) fn number_at(floats: &[f32], i: usize) -> f32
+pub fn number_at(floats: &[f32], i: usize) -> f32
     ensures { λ r. ⌜ r ≡ getD (now (floats .entry)) i plusZero ⌝ }
 {
     if i < floats.len() {
@@ -57,7 +57,7 @@ fn release_at(releases: &[f32], i: usize) -> f32
 }
 
 // The larger of two ends.
-fn larger(a: u64, b: u64) -> u64
+pub fn larger(a: u64, b: u64) -> u64
     ensures { λ r. ⌜ r ≡ max a b ⌝ }
 {
     if a < b {

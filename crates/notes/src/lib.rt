@@ -1,5 +1,4 @@
 // Notes as they sound, from the environment of their part (the Rust's `part.rs`).
 
-pub mod array;
 pub mod length;
 pub mod note;

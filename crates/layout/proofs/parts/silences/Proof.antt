@@ -2,8 +2,8 @@
 use mathlib.Core.Path.{refl}
 use lib.Ieee.{ofBits}
 use Rattle.sheet.specs.Padding.{padded}
-use Rattle.notes.proofs.array.silences.Statement.{statement}
-use Rattle.notes.proofs.array.silences.Tie as tie
+use Rattle.layout.proofs.parts.silences.Statement.{statement}
+use Rattle.layout.proofs.parts.silences.Tie as tie
 
 returns : tie.Need-returns
 unfolding padded ofBits

@@ -1,0 +1,34 @@
+-- Regions of a column: the part that code lends of it, how long a region is, and where in the column its elements stand. Assumes nothing.
+use mathlib.Core.Path.{_≡_, ap, ap₂, _∙_}
+use mathlib.Core.List.{List, [], _∷_}
+use Prim.Native.Nat.{ℕ, zero, suc, _+_, _-_, _*_, _<_, min}
+use native.Mathlib.Nat.{zero-min, min-zero, suc-min-suc}
+use native.Mathlib.Omega.{arith}
+use lib.ListN.{length, take, drop, getD, length-take, length-drop}
+use lib.Seq.{getD-take, getD-drop}
+use Rattle.sheet.proofs.Basics.{take-least}
+use Rattle.layout.specs.Regions.{region}
+
+-- a place past the end may be cut there
+drop-least : {A : Type 0} (m : ℕ) (xs : List A) → drop (min m (length xs)) xs ≡ drop m xs
+drop-least zero xs = ap (λ (k : ℕ). drop k xs) (zero-min (length xs))
+drop-least (suc m) [] = ap {B = List _} (λ (k : ℕ). drop k []) (min-zero (suc m))
+drop-least (suc m) (x ∷ xs) = ap (λ (k : ℕ). drop k (x ∷ xs)) (suc-min-suc m (length xs)) ∙ drop-least m xs
+
+-- a region is what stands between two places that are cut at the end
+pub region-cut : {A : Type 0} (w k : ℕ) (xs : List A) (from to : ℕ) → from ≡ min (w * k) (length xs) → to ≡ min (w * k + w) (length xs)
+    → take (to - from) (drop from xs) ≡ region w k xs
+unfolding region
+region-cut w k xs from to f t =
+    let there : drop from xs ≡ drop (w * k) xs = ap (λ (j : ℕ). drop j xs) f ∙ drop-least (w * k) xs in
+    let wide : to - from ≡ min w (length (drop (w * k) xs)) = omega (arith, f, t, length-drop (w * k) xs) in
+    ap₂ (λ (j : ℕ) (ys : List _). take j ys) wide there ∙ take-least w (drop (w * k) xs)
+
+pub region-length : {A : Type 0} (w k : ℕ) (xs : List A) → length (region w k xs) ≡ min w (length xs - w * k)
+unfolding region
+region-length w k xs = length-take w (drop (w * k) xs) ∙ ap (min w) (length-drop (w * k) xs)
+
+pub region-get : {A : Type 0} (w k : ℕ) (xs : List A) (j at : ℕ) (d : A) → j < w → at ≡ w * k + j → getD (region w k xs) j d ≡ getD xs at d
+unfolding region
+region-get w k xs j at d h e =
+    getD-take w (drop (w * k) xs) j d h ∙ getD-drop (w * k) xs j d ∙ ap (λ (i : ℕ). getD xs i d) (let z : w * k + j ≡ at = omega (arith, e) in z)

@@ -1,0 +1,6 @@
+pub mod Cuts
+pub mod Fills
+pub mod Laid
+pub mod Longest
+pub mod Regions
+pub mod Tables
