@@ -3,7 +3,7 @@
 -- accepted and that their commands fit an instrument follows from the refusals. Assumes nothing.
 use mathlib.Core.Path.{_≡_, refl, ap, _∙_}
 use mathlib.Core.List.{List, [], _∷_, _++_, map}
-use mathlib.Core.Option.{Option, none, some}
+use mathlib.Core.Option.{Option, none}
 use Prim.Native.Nat.{ℕ, _+_, _-_, _≤_}
 use native.Mathlib.Omega.{arith}
 use lib.Dec.{T}
@@ -72,8 +72,7 @@ macro-kept line l r g = holds-after _ _ _ (λ m. holds-going Kept _ g)
 
 part-kept : (rate line : ℕ) (n : Option Named) (r : Read) → Kept r → Holds Kept (partRead rate line n r)
 unfolding partRead
-part-kept rate line none r g = holds-going Kept _ g
-part-kept rate line (some n) r g = holds-after _ _ _ (λ v. holds-after _ _ _ (λ p. holds-going Kept _ g))
+part-kept rate line n r g = holds-after _ _ _ (λ q. holds-going Kept _ g)
 
 kept : (rate : ℕ) → KeptByLines Kept rate
 unfolding nothingRead

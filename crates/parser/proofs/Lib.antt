@@ -1,5 +1,13 @@
 pub mod Answers
+pub mod Blocks
+pub mod Changing
 pub mod Demand3
+pub mod Directives
+pub mod Going
+pub mod Headers
+pub mod Macros
+pub mod Numbers
+pub mod ReadLines
 pub mod Starred
 pub mod StepCount
 pub mod Throughout

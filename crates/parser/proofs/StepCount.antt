@@ -2,16 +2,19 @@
 use mathlib.Core.Path.{_≡_}
 use mathlib.Core.List.{List}
 use mathlib.Core.Option.{Option, none, some}
-use Prim.Native.Nat.{ℕ, _≤_}
+use Prim.Native.Nat.{ℕ, _-_, _≤_}
 use native.Mathlib.Omega.{arith}
+use lib.ListN.{length}
 use Rattle.sheet.specs.Capacities.{stepsMost}
 use Rattle.sheet.specs.Refusals.{going}
 use Rattle.sheet.proofs.Holds.{Holds, holds-going, holds-then, holds-after}
 use Rattle.text.specs.Tokens.{Named}
-use Rattle.part.specs.Body.{bodyRead}
+use Rattle.environment.specs.declared.environment.Environment.{Environment}
+use Rattle.part.specs.Body.{Book, bodyRead}
 use Rattle.part.proofs.StepCount.{Counted, body-counted}
 use Rattle.parser.proofs.Throughout.{KeptByLines, of-accepted}
-use Rattle.parser.specs.Sheets.{Read, readOf, bookOf, partNamed, withPartNamed, notesBeside, partOf, headerRead, directiveRead, macroRead, partRead, nothingRead, sheetRead}
+use Rattle.parser.specs.Parts.{Played, notesOf, partNamed, withPartNamed, partOf, linePlayed}
+use Rattle.parser.specs.Sheets.{Read, readOf, bookOf, headerRead, directiveRead, macroRead, partRead, nothingRead, sheetRead}
 
 -- no more than the limit
 abbrev Kept : Read → Type 0
@@ -29,16 +32,28 @@ macro-kept : (line : ℕ) (l : List ℕ) (r : Read) → Kept r → Holds Kept (m
 unfolding macroRead
 macro-kept line l r g = holds-after _ _ _ (λ m. holds-going Kept _ g)
 
+-- the steps of the parts after a part's line
+abbrev PlayedFew : Played → Type 0
+PlayedFew q = q .steps ≤ stepsMost
+
+played-few : (book : Book) (start : Environment) (line : ℕ) (n : Option Named) (q : Played) → PlayedFew q → Holds PlayedFew (linePlayed book start line n q)
+unfolding linePlayed
+played-few book start line none q g = holds-going PlayedFew _ g
+played-few book start line (some n) q g =
+    holds-after PlayedFew (partOf start line (q .parts) (partNamed (n .name) (q .parts))) _
+    (λ v. holds-then Counted PlayedFew
+    (bodyRead book line (n .body) (record { part = v; others = length (notesOf (q .parts)) - length (v .notes); steps = q .steps }))
+    (λ p. going (record { parts = withPartNamed (n .name) (p .part) (q .parts); steps = p .steps }))
+    (body-counted book line (n .body) (record { part = v; others = length (notesOf (q .parts)) - length (v .notes); steps = q .steps }) g)
+    (λ p h. holds-going PlayedFew _ h))
+
 part-kept : (rate line : ℕ) (n : Option Named) (r : Read) → Kept r → Holds Kept (partRead rate line n r)
 unfolding partRead
-part-kept rate line none r g = holds-going Kept _ g
-part-kept rate line (some n) r g =
-    holds-after Kept (partOf line r (partNamed (n .name) (r .parts))) _
-    (λ v. holds-then Counted Kept
-    (bodyRead (bookOf rate r) line (n .body) (record { part = v; others = notesBeside (n .name) (r .parts); steps = r .steps }))
-    (λ p. going (readOf (r .start) (withPartNamed (n .name) (p .part) (r .parts)) (r .macros) (r .names) (r .instruments) (p .steps)))
-    (body-counted (bookOf rate r) line (n .body) (record { part = v; others = notesBeside (n .name) (r .parts); steps = r .steps }) g)
-    (λ p h. holds-going Kept _ h))
+part-kept rate line n r g =
+    holds-then PlayedFew Kept (linePlayed (bookOf rate r) (r .start) line n (record { parts = r .parts; steps = r .steps }))
+    (λ q. going (readOf (r .start) (q .parts) (r .macros) (r .names) (r .instruments) (q .steps)))
+    (played-few (bookOf rate r) (r .start) line n (record { parts = r .parts; steps = r .steps }) g)
+    (λ q h. holds-going Kept _ h)
 
 kept : (rate : ℕ) → KeptByLines Kept rate
 unfolding nothingRead

@@ -1,21 +1,17 @@
 -- A reading laid out in the arrays of a `Sheet`: the notes of the parts one part after the other, then silence; the instruments, then empty ones. "1 to
 -- 27 return an empty sheet (no parts, notes or instruments), step count 0 and a line". Assumes nothing.
-use mathlib.Core.List.{List, [], _∷_, _++_, map}
+use mathlib.Core.List.{List, [], map}
 use Prim.Native.Nat.{ℕ}
 use lib.ListN.{length}
 use Rattle.instrument.specs.Lines.{Line}
 use Rattle.commands.specs.Commands.{instrumentOf}
 use Rattle.sheet.specs.Padding.{padded, silence}
-use Rattle.sheet.specs.declared.note.Note.{Note}
 use Rattle.sheet.specs.declared.sheet.Sheet.{Sheet}
 use Rattle.sheet.specs.Capacities.{partsMost, notesMost, instrumentsMost}
 use Rattle.sheet.specs.Refusals.{Outcome, going, refused}
-use Rattle.parser.specs.Sheets.{NamedPart, Read, sheetRead}
-
--- the notes of the parts, one part after the other
-unfoldable pub notesOf : List NamedPart → List Note
-notesOf [] = []
-notesOf (p ∷ ps) = p .part .notes ++ notesOf ps
+use Rattle.parser.specs.declared.reading.Reading.{Reading}
+use Rattle.parser.specs.Parts.{NamedPart, notesOf}
+use Rattle.parser.specs.Sheets.{Read, sheetRead}
 
 -- the sheet of parts and instruments
 unfoldable pub sheetOf : List NamedPart → List (List Line) → Sheet
@@ -29,18 +25,13 @@ sheetOf ps is =
       table = padded instrumentsMost (instrumentOf []) (map instrumentOf is);
     }
 
--- what a source's reading is: a refusal number, 0 for none, a line, the steps and the sheet
-pub record Laid : Type 0 where
-  pub refusal : ℕ
-  pub line : ℕ
-  pub steps : ℕ
-  pub sheet : Sheet
-
-unfoldable pub laidOut : Outcome Read → Laid
+-- a refusal number, 0 for none, a line, the steps and the sheet
+unfoldable pub laidOut : Outcome Read → Reading
 unfolding sheetOf
 laidOut (going r) = record { refusal = 0; line = 0; steps = r .steps; sheet = sheetOf (r .parts) (r .instruments) }
 laidOut (refused n l) = record { refusal = n; line = l; steps = 0; sheet = sheetOf [] [] }
 
-unfoldable pub readingOf : ℕ → List ℕ → Laid
+-- what a source is read as, its notes counted at a rate
+unfoldable pub readingOf : ℕ → List ℕ → Reading
 unfolding laidOut sheetRead
 readingOf rate source = laidOut (sheetRead rate source)

@@ -1,2 +1,4 @@
+pub mod Columns
 pub mod Layout
+pub mod Parts
 pub mod Sheets

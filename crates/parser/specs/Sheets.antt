@@ -8,7 +8,7 @@ use lib.Dec.{leb, ltb, eqb}
 use lib.ListN.{length}
 use lib.Ieee.{Float}
 use Rattle.ieee.specs.Constants.{plusZero, one}
-use Rattle.text.specs.Characters.{same, rowOf}
+use Rattle.text.specs.Characters.{rowOf}
 use Rattle.text.specs.Lines.{linesOf}
 use Rattle.text.specs.Tokens.{Named, namedOf}
 use Rattle.instrument.specs.Lines.{Line, releaseOf}
@@ -17,17 +17,13 @@ use Rattle.sheet.specs.Refusals.{Outcome, going, _>>=_, _>>_, refuse_on_unless_
 use Rattle.environment.specs.declared.environment.Environment.{Environment}
 use Rattle.environment.specs.Environment.{atTheStart}
 use Rattle.operators.specs.OperatorLines.{operatorLines, operatorsRead}
-use Rattle.part.specs.Body.{Part, Macro, Book, bodyRead}
+use Rattle.part.specs.Body.{Macro, Book}
 use Rattle.tables.specs.Tables.{macroOf, headerOf}
 use Rattle.notes.specs.Lengths.{endOf}
 use Rattle.directive.specs.Directives.{directiveOf}
+use Rattle.parser.specs.Parts.{NamedPart, everyPart, linePlayed}
 
 -- ---- what has been read so far
-
--- a part and its name
-pub record NamedPart : Type 0 where
-  pub name : List ℕ
-  pub part : Part
 
 -- the starting environment; the parts in order of first appearance; the macros; the names of the instruments from 1 on, and the operator lines of the
 -- instruments from 0 on; and the steps
@@ -71,11 +67,6 @@ headerRead line name below r = do
 
 -- ---- directives
 
-unfoldable pub everyPart : (Environment → Environment) → List NamedPart → List NamedPart
-everyPart f [] = []
-everyPart f (p ∷ ps) =
-    record { name = p .name; part = record { env = f (p .part .env); notes = p .part .notes; loops = p .part .loops } } ∷ everyPart f ps
-
 -- "A directive changes the starting environment and every existing part's."; "Directive: 7 for tokens, 6, then value."
 unfoldable pub directiveRead : ℕ → List ℕ → Read → Outcome Read
 unfolding directiveOf everyPart
@@ -94,40 +85,11 @@ macroRead line l r = do
 
 -- ---- parts
 
-unfoldable pub partNamed : List ℕ → List NamedPart → Option Part
-unfolding same
-partNamed name [] = none
-partNamed name (p ∷ ps) = elim (same name (p .name)) [ true ↦ some (p .part) | false ↦ partNamed name ps ]
-
--- the parts with this part for the name, in its place or, where the name is new, last
-unfoldable pub withPartNamed : List ℕ → Part → List NamedPart → List NamedPart
-unfolding same
-withPartNamed name v [] = record { name = name; part = v } ∷ []
-withPartNamed name v (p ∷ ps) =
-    elim (same name (p .name)) [ true ↦ record { name = name; part = v } ∷ ps | false ↦ p ∷ withPartNamed name v ps ]
-
--- how many notes the parts of other names have
-unfoldable pub notesBeside : List ℕ → List NamedPart → ℕ
-unfolding same
-notesBeside name [] = 0
-notesBeside name (p ∷ ps) =
-    elim (same name (p .name)) [ true ↦ notesBeside name ps | false ↦ length (p .part .notes) + notesBeside name ps ]
-
--- the part of a name, or a new one with the starting environment: "New part: 21 before its body."
-unfoldable pub partOf : ℕ → Read → Option Part → Outcome Part
-partOf line r (some v) = going v
-partOf line r none = do
-  refuse 21 on line unless (ltb (length (r .parts)) partsMost)
-  going (record { env = r .start; notes = []; loops = [] })
-
--- "All else is a part line: first token the name, the rest the body; under two tokens it is skipped."
 unfoldable pub partRead : ℕ → ℕ → Option Named → Read → Outcome Read
-unfolding partOf partNamed bodyRead bookOf notesBeside withPartNamed
-partRead rate line none r = going r
-partRead rate line (some n) r = do
-  v ← partOf line r (partNamed (n .name) (r .parts))
-  p ← bodyRead (bookOf rate r) line (n .body) (record { part = v; others = notesBeside (n .name) (r .parts); steps = r .steps })
-  going (readOf (r .start) (withPartNamed (n .name) (p .part) (r .parts)) (r .macros) (r .names) (r .instruments) (p .steps))
+unfolding linePlayed bookOf
+partRead rate line n r = do
+  q ← linePlayed (bookOf rate r) (r .start) line n (record { parts = r .parts; steps = r .steps })
+  going (readOf (r .start) (q .parts) (r .macros) (r .names) (r .instruments) (q .steps))
 
 -- ---- lines
 

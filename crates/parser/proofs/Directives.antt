@@ -1,0 +1,103 @@
+-- A directive's line: "A directive changes the starting environment and every existing part's." Assumes nothing.
+use mathlib.Core.Path.{_≡_, refl, sym, ap, ap₂, subst, _∙_}
+use mathlib.Core.List.{List, [], _∷_}
+use Prim.Native.Nat.{ℕ, zero, suc, _+_, _≤_, _<_}
+use native.Mathlib.Omega.{arith}
+use lib.ListN.{length, drop, getD}
+use lib.Ieee.{Float}
+use Rattle.text.specs.Lines.{lineOf}
+use Rattle.text.specs.Names.{between}
+use Rattle.sheet.specs.Refusals.{Outcome, going, refused, _>>=_}
+use Rattle.sheet.proofs.Outcomes.{Numbered, then-going, then-refused}
+use Rattle.environment.specs.declared.environment.Environment.{Environment}
+use Rattle.environment.specs.Environment.{atTheStart}
+use Rattle.directive.specs.declared.directive.Directive.{Directive}
+use Rattle.directive.specs.Directives.{directiveOf, directiveOutcome, applied}
+use Rattle.tables.specs.Tables.{numberOf}
+use Rattle.parser.specs.declared.sofar.Sofar.{Sofar}
+use Rattle.parser.specs.Parts.{NamedPart, everyPart}
+use Rattle.parser.specs.Sheets.{Read, readOf, directiveRead}
+use Rattle.parser.specs.Columns.{partAt, partsFrom, Tables, readIn, Fits, Tabled, Begins, Goes, refusedAt, passedTo, withEnvs}
+use Rattle.parser.proofs.Numbers.{directive-numbered, directive-going, directive-refused, applied-octave}
+use Rattle.parser.proofs.Going.{lined, goes-refused, goes-on}
+
+module _ (s places : List ℕ) (r : Sofar) (fs : List Float) (is ls : List ℕ) (f : Environment → Environment) (start : Environment) (es : List Environment) (line at : ℕ) where
+  -- the reading behind the line
+  abbrev behind : Sofar
+  behind = passedTo (withEnvs r start es) (r .macros) (r .instruments) line at
+
+  -- every part has its environment changed
+  pub parts-changed : (n k : ℕ) → ((j : ℕ) → j < k + n → getD es j atTheStart ≡ f (getD (r .envs) j atTheStart))
+      → everyPart f (partsFrom s places r fs is ls k n) ≡ partsFrom s places behind fs is ls k n
+  unfolding everyPart partsFrom partAt
+  parts-changed zero k h = refl
+  parts-changed (suc n) k h =
+      ap₂
+      (λ (e : Environment) (ps : List NamedPart). record {
+        name = partAt s places r fs is ls k .name;
+        part = record { env = e; notes = partAt s places r fs is ls k .part .notes; loops = partAt s places r fs is ls k .part .loops };
+      }
+      ∷ ps)
+      (sym (h k (omega arith)))
+      (parts-changed n (k + 1) (λ j l. h j (omega (arith, l))))
+
+module _ (s places : List ℕ) (r : Sofar) (fs : List Float) (is ls : List ℕ) (t : Tables) (end next : ℕ) (b : Begins s r end next) (d : Directive) (n : ℕ) where
+  module _ (said : (line : ℕ) → directiveOutcome line d ≡ directiveOf line (between s (r .at) end)) (number : (line : ℕ) → n ≡ numberOf (directiveOutcome line d)) where
+    abbrev before : Read
+    before = readIn s places r fs is ls t
+
+    abbrev text : List ℕ
+    text = lineOf (drop (r .at) s)
+
+    says : directiveOf (r .line) text ≡ directiveOutcome (r .line) d
+    says = ap (directiveOf (r .line)) (sym (lined s r end next b .line)) ∙ sym (said (r .line))
+
+    pub directive-refuses : (n ≡ 0 → ⊥) → Goes (directiveRead (r .line) text before) 1 s places r (refusedAt r n (r .line)) fs is ls t
+    unfolding directiveRead
+    directive-refuses z =
+        goes-refused s places r fs is ls t _ 1 n (r .line) z
+        (then-refused n (r .line) (directiveOf (r .line) text) _ (says ∙ directive-refused d (r .line) n (number (r .line)) z))
+
+    module _ (z : n ≡ 0) (es : List Environment) (long : length es ≡ length (r .envs)) (each : (j : ℕ) → j < r .parts → getD es j atTheStart ≡ applied d (getD (r .envs) j atTheStart)) where
+      abbrev after : Sofar
+      after = passedTo (withEnvs r (applied d (r .start)) es) (r .macros) (r .instruments) (r .line + 1) next
+
+      numbered : Numbered (directiveOutcome (r .line) d)
+      numbered = subst Numbered says (directive-numbered (r .line) text)
+
+      pub directive-goes : Fits places r fs is ls → Tabled r t → Goes (directiveRead (r .line) text before) 1 s places r after fs is ls t
+      unfolding directiveRead readIn
+      directive-goes w g =
+          goes-on s places r fs is ls t after end next _ b (b .goes) refl refl
+          (record {
+            few = w .few;
+            start = omega (arith, applied-octave d (r .start), w .start);
+            octaves = λ k h. omega (arith, ap (λ (e : Environment). e .octave) (each k h), applied-octave d (getD (r .envs) k atTheStart), w .octaves k h);
+            counts = w .counts;
+            depths = w .depths;
+            all = w .all;
+            notes = w .notes;
+            envs-length = long ∙ w .envs-length;
+            counts-length = w .counts-length;
+            depths-length = w .depths-length;
+            places-length = w .places-length;
+            floats-length = w .floats-length;
+            bytes-length = w .bytes-length;
+            loops-length = w .loops-length;
+          })
+          (record {
+            macros-few = g .macros-few;
+            instruments-few = g .instruments-few;
+            macros-length = g .macros-length;
+            bodies-length = g .bodies-length;
+            names-length = g .names-length;
+            sizes-length = g .sizes-length;
+            numbers-length = g .numbers-length;
+            shape-length = g .shape-length;
+            releases-length = g .releases-length;
+            releases = g .releases;
+          })
+          (then-going (applied d) (directiveOf (r .line) text) _ (says ∙ directive-going d (r .line) n (number (r .line)) z numbered)
+          ∙ ap
+          (λ (ps : List NamedPart). going (readOf (applied d (r .start)) ps (before .macros) (before .names) (before .instruments) (before .steps)))
+          (parts-changed s places r fs is ls (applied d) (applied d (r .start)) es (r .line + 1) next (r .parts) 0 (λ j h. each j (omega (arith, h)))))

@@ -1,0 +1,102 @@
+// An instrument's header with the operator lines below it.
+
+ghost use mathlib.Core.Path.{_≡_};
+ghost use mathlib.Core.List.{List};
+ghost use Prim.Native.Nat.{ℕ, _+_, _*_, _≤_, _<_};
+ghost use lib.ListN.{length, drop, set};
+ghost use lib.Ieee.{Float};
+ghost use Rattle.text.specs.Lines.{linesOf, lineOf};
+ghost use Rattle.instrument.specs.Lines.{releaseOf};
+ghost use Rattle.operators.specs.OperatorLines.{operatorLines};
+ghost use Rattle.commands.specs.Commands.{linesHeld};
+ghost use Rattle.layout.specs.Regions.{region};
+ghost use Rattle.parser.specs.Sheets.{headerRead};
+ghost use Rattle.parser.specs.Columns.{tablesOf, readIn, Fits, Tabled, Begins, Goes, Blocked};
+use crate::sofar::Sofar;
+use crate::steps::refused;
+use commands::layout::instrument_of;
+use operators::block::Block;
+use operators::block::read_block;
+use tables::table::header_line;
+
+// The operator lines from place `at` on, in the regions of the instrument i.
+fn block_at(source: &[u8], at: usize, numbers: &mut [f32], shape: &mut [usize], i: usize) -> Block
+    requires { ⌜ (i < 32) × ((length (now numbers) ≡ 6144) × (length (now shape) ≡ 2048)) ⌝ }
+    ensures { λ b. ⌜ Blocked (now (source .entry)) at i b (now (numbers .entry)) (now (shape .entry)) (now (numbers .exit)) (now (shape .exit)) ⌝ }
+{
+    read_block(
+        source,
+        at,
+        &mut numbers[192 * i..192 * i + 192],
+        &mut shape[64 * i..64 * i + 64],
+    )
+}
+
+// The release of the instrument i, which has `size` operator lines.
+fn release_at(numbers: &[f32], shape: &[usize], i: usize, size: usize) -> f32
+    requires { ⌜ (i < 32) × ((length (now numbers) ≡ 6144) × (length (now shape) ≡ 2048)) ⌝ }
+    ensures { λ x. ⌜ x ≡ releaseOf (linesHeld size (region 192 i (now (numbers .entry))) (region 64 i (now (shape .entry)))) ⌝ }
+{
+    let own = instrument_of(
+        &numbers[192 * i..192 * i + 192],
+        &shape[64 * i..64 * i + 64],
+        size,
+    );
+    own.release
+}
+
+// The operator lines from place `at` on, kept as the instrument i with their number and its release.
+fn kept(
+    source: &[u8],
+    at: usize,
+    sizes: &mut [usize],
+    numbers: &mut [f32],
+    shape: &mut [usize],
+    releases: &mut [f32],
+    i: usize,
+) -> Block
+    requires { ⌜ (i < 32) × ((length (now sizes) ≡ 32) × ((length (now numbers) ≡ 6144) × ((length (now shape) ≡ 2048) × (length (now releases) ≡ 32)))) ⌝ }
+    ensures block { λ b. ⌜ Blocked (now (source .entry)) at i b (now (numbers .entry)) (now (shape .entry)) (now (numbers .exit)) (now (shape .exit)) ⌝ }
+    ensures sizes { λ b. ⌜ (b .refusal ≡ 0 → now (sizes .exit) ≡ set (now (sizes .entry)) i (b .count)) ⌝ }
+    ensures releases { λ b. ⌜ (b .refusal ≡ 0 → now (releases .exit) ≡ set (now (releases .entry)) i (releaseOf (linesHeld (b .count) (region 192 i (now (numbers .exit))) (region 64 i (now (shape .exit)))))) ⌝ }
+{
+    let b = block_at(source, at, numbers, shape, i);
+    if b.refusal != 0 {
+        return b;
+    }
+    sizes[i] = b.count;
+    releases[i] = release_at(numbers, shape, i, b.count);
+    b
+}
+
+// A header's line, and the operator lines below it.
+pub(crate) fn header_step(
+    source: &[u8],
+    end: usize,
+    next: usize,
+    names: &mut [usize],
+    sizes: &mut [usize],
+    numbers: &mut [f32],
+    shape: &mut [usize],
+    releases: &mut [f32],
+    r: Sofar,
+) -> Sofar
+    requires { ⌜ Begins (now source) r end next × ((r .instruments + 1 ≤ 32) × ((length (now names) ≡ 64) × ((length (now sizes) ≡ 32) × ((length (now numbers) ≡ 6144) × ((length (now shape) ≡ 2048) × (length (now releases) ≡ 32)))))) ⌝ }
+    ensures { λ q. ⌜ ((places : List ℕ) (fs : List Float) (is ls ms bs : List ℕ) → Fits places r fs is ls → Tabled r (tablesOf ms bs (now (names .entry)) (now (sizes .entry)) (now (numbers .entry)) (now (shape .entry)) (now (releases .entry))) → Goes (headerRead (r .line) (lineOf (drop (r .at) (now (source .entry)))) (linesOf (drop next (now (source .entry)))) (readIn (now (source .entry)) places r fs is ls (tablesOf ms bs (now (names .entry)) (now (sizes .entry)) (now (numbers .entry)) (now (shape .entry)) (now (releases .entry))))) (1 + length (operatorLines (linesOf (drop next (now (source .entry)))))) (now (source .entry)) places r q fs is ls (tablesOf ms bs (now (names .exit)) (now (sizes .exit)) (now (numbers .exit)) (now (shape .exit)) (now (releases .exit)))) ⌝ }
+{
+    let i = r.instruments + 1;
+    let number = header_line(source, r.at, end, names, r.instruments);
+    if number != 0 {
+        return refused(r, number, r.line);
+    }
+    let b = kept(source, next, sizes, numbers, shape, releases, i);
+    let line = r.line + 1 + b.count;
+    if b.refusal != 0 {
+        return refused(r, b.refusal, line);
+    }
+    let mut q = r;
+    q.instruments = i;
+    q.line = line;
+    q.at = b.next;
+    q
+}

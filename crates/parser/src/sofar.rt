@@ -1,0 +1,24 @@
+// How far the reading of a sheet is, with its tables and columns beside it.
+
+use environment::environment::Environment;
+
+pub struct Sofar {
+    // The starting environment.
+    pub start: Environment,
+    // How many parts there are; the environment of each, how many notes it has, and how many loops are open in it.
+    pub parts: usize,
+    pub envs: [Environment; 16],
+    pub counts: [usize; 16],
+    pub depths: [usize; 16],
+    // How many notes they have together.
+    pub all: usize,
+    // How many macros there are, and how many instruments beside the default one.
+    pub macros: usize,
+    pub instruments: usize,
+    pub steps: usize,
+    // A refusal's number, 0 for none.
+    pub refusal: u32,
+    // The number of the line that is read next, and the place where it begins; after a refusal its line.
+    pub line: usize,
+    pub at: usize,
+}

@@ -1,0 +1,115 @@
+// Lines that are no part's: each is one step of the reading.
+
+ghost use mathlib.Core.Path.{_≡_};
+ghost use mathlib.Core.List.{List};
+ghost use Prim.Native.Nat.{ℕ, _+_, _*_, _≤_, _<_};
+ghost use lib.ListN.{length, drop, getD};
+ghost use lib.Ieee.{Float};
+ghost use Rattle.text.specs.Lines.{lineOf};
+ghost use Rattle.environment.specs.Environment.{atTheStart};
+ghost use Rattle.directive.specs.Directives.{directiveOutcome, applied};
+ghost use Rattle.tables.specs.Tables.{numberOf};
+ghost use Rattle.parser.specs.Sheets.{directiveRead, macroRead};
+ghost use Rattle.parser.specs.Columns.{Tables, tablesOf, readIn, Fits, Tabled, Begins, Goes, refusedAt, passedTo, withEnvs};
+use crate::sofar::Sofar;
+use directive::directive::Directive;
+use directive::directive::apply;
+use directive::directive::read_directive;
+use tables::table::macro_line;
+
+// A refusal with its line.
+pub(crate) fn refused(r: Sofar, number: u32, line: usize) -> Sofar
+    ensures { λ q. ⌜ q ≡ refusedAt r number line ⌝ }
+{
+    let mut q = r;
+    q.refusal = number;
+    q.line = line;
+    q
+}
+
+// On behind one line.
+pub(crate) fn passed(r: Sofar, next: usize) -> Sofar
+    requires { ⌜ r .line ≤ 2000000 ⌝ }
+    ensures { λ q. ⌜ q ≡ passedTo r (r .macros) (r .instruments) (r .line + 1) next ⌝ }
+{
+    let mut q = r;
+    q.line = r.line + 1;
+    q.at = next;
+    q
+}
+
+// The number of a directive's refusal, 0 for none.
+fn refusal_of(d: Directive) -> u32
+    ensures { λ r. ⌜ ((line : ℕ) → r ≡ numberOf (directiveOutcome line d)) ⌝ }
+{
+    match d {
+        Directive::Tempo(_) => {
+            return 0;
+        }
+        Directive::Denominator(_) => {
+            return 0;
+        }
+        Directive::OfKey(_) => {
+            return 0;
+        }
+        Directive::Refused(n) => {
+            return n;
+        }
+    }
+}
+
+// The starting environment and that of every part, changed by a directive.
+fn changed(d: Directive, r: Sofar) -> Sofar
+    requires { ⌜ (r .parts ≤ 16) × (length (r .envs) ≡ 16) ⌝ }
+    ensures whole { λ q. ⌜ q ≡ withEnvs r (applied d (r .start)) (q .envs) ⌝ }
+    ensures each { λ q. ⌜ (length (q .envs) ≡ length (r .envs)) × ((j : ℕ) → j < r .parts → getD (q .envs) j atTheStart ≡ applied d (getD (r .envs) j atTheStart)) ⌝ }
+{
+    let parts = r.parts;
+    let mut envs = r.envs;
+    let mut i = 0;
+    while i < parts {
+        envs[i] = apply(d, envs[i]);
+        i += 1;
+    }
+    let mut q = r;
+    q.start = apply(d, r.start);
+    q.envs = envs;
+    q
+}
+
+// A directive's line.
+pub(crate) fn directive_step(source: &[u8], end: usize, next: usize, r: Sofar) -> Sofar
+    requires { ⌜ Begins (now source) r end next × ((r .parts ≤ 16) × (length (r .envs) ≡ 16)) ⌝ }
+    ensures { λ q. ⌜ ((places : List ℕ) (fs : List Float) (is ls : List ℕ) (t : Tables) → Fits places r fs is ls → Tabled r t → Goes (directiveRead (r .line) (lineOf (drop (r .at) (now (source .entry)))) (readIn (now (source .entry)) places r fs is ls t)) 1 (now (source .entry)) places r q fs is ls t) ⌝ }
+{
+    let at = r.at;
+    let l = &source[at..end];
+    let d = read_directive(l);
+    let number = refusal_of(d);
+    if number != 0 {
+        return refused(r, number, r.line);
+    }
+    passed(changed(d, r), next)
+}
+
+// A macro's line.
+pub(crate) fn macro_step(
+    source: &[u8],
+    end: usize,
+    next: usize,
+    macros: &mut [usize],
+    bodies: &mut [usize],
+    r: Sofar,
+) -> Sofar
+    requires { ⌜ Begins (now source) r end next × (r .macros ≤ 64) ⌝ }
+    ensures { λ q. ⌜ ((places : List ℕ) (fs : List Float) (is ls ns zs : List ℕ) (xs : List Float) (ss : List ℕ) (rs : List Float) → Fits places r fs is ls → Tabled r (tablesOf (now (macros .entry)) (now (bodies .entry)) ns zs xs ss rs) → Goes (macroRead (r .line) (lineOf (drop (r .at) (now (source .entry)))) (readIn (now (source .entry)) places r fs is ls (tablesOf (now (macros .entry)) (now (bodies .entry)) ns zs xs ss rs))) 1 (now (source .entry)) places r q fs is ls (tablesOf (now (macros .exit)) (now (bodies .exit)) ns zs xs ss rs)) ⌝ }
+{
+    let count = r.macros;
+    let number = macro_line(source, r.at, end, macros, bodies, count, r.line);
+    if number != 0 {
+        return refused(r, number, r.line);
+    }
+    let mut q = passed(r, next);
+    q.macros = count + 1;
+    q
+}
