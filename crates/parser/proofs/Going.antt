@@ -22,7 +22,7 @@ module _ (s places : List ℕ) (r : Sofar) (fs : List Float) (is ls : List ℕ) 
   unfolding readOutcome
   read-going e = rw (e, readOutcome)
 
-  read-refused : (n l : ℕ) → (n ≡ 0 → ⊥) → readOutcome s places (refusedAt r n l) fs is ls t ≡ refused n l
+  pub read-refused : (n l : ℕ) → (n ≡ 0 → ⊥) → readOutcome s places (refusedAt r n l) fs is ls t ≡ refused n l
   unfolding readOutcome
   read-refused zero l h = absurd (h refl)
   read-refused (suc n) l h = refl

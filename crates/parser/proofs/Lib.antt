@@ -1,6 +1,7 @@
 pub mod Answers
 pub mod Blocks
 pub mod Changing
+pub mod Closings
 pub mod Demand3
 pub mod Directives
 pub mod Going
@@ -8,6 +9,7 @@ pub mod Headers
 pub mod Macros
 pub mod Numbers
 pub mod ReadLines
+pub mod Sheeting
 pub mod Starred
 pub mod StepCount
 pub mod Throughout

@@ -1,5 +1,6 @@
 // The reader of sheets.
 
+pub mod ending;
 pub mod header;
 pub mod reading;
 pub mod sofar;
