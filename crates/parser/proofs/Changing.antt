@@ -1,8 +1,8 @@
 -- A directive carried out on one environment after the other: those before a place are changed, those from it on are not yet. Assumes nothing.
 use mathlib.Core.Path.{_≡_, refl, sym, ap, _∙_}
 use mathlib.Core.Bool.{Bool, true, false}
-use mathlib.Core.List.{List, [], _∷_}
-use Prim.Native.Nat.{ℕ, zero, suc, _+_, _≤_, _<_}
+use mathlib.Core.List.{List}
+use Prim.Native.Nat.{ℕ, _+_, _≤_, _<_}
 use native.Mathlib.Omega.{arith}
 use lib.Dec.{eqb}
 use lib.ListN.{length, getD, set, length-set}
@@ -12,12 +12,7 @@ use Rattle.environment.specs.declared.environment.Environment.{Environment}
 use Rattle.environment.specs.Environment.{atTheStart}
 use Rattle.directive.specs.declared.directive.Directive.{Directive}
 use Rattle.directive.specs.Directives.{applied}
-
--- inside a list it does not matter what stands for an element past its end
-pub getD-any : {A : Type 0} (xs : List A) (i : ℕ) (d e : A) → i < length xs → getD xs i d ≡ getD xs i e
-getD-any [] i d e h = absurd (omega (arith, h))
-getD-any (x ∷ xs) zero d e h = refl
-getD-any (x ∷ xs) (suc i) d e h = getD-any xs i d e (omega (arith, h))
+use Rattle.parser.proofs.PartPlaces.{element-any}
 
 pub record Changing (d : Directive) (es₀ : List Environment) (i : ℕ) (es : List Environment) : Type 0 where
   pub long : length es ≡ length es₀
@@ -42,7 +37,7 @@ changing-more d es₀ i es e none g h q =
         ap (λ (k : ℕ). getD (set es i e) k atTheStart) z
         ∙ getD-set-same es i e atTheStart (omega (arith, h, g .long))
         ∙ q
-        ∙ ap (applied d) (getD-any es i none atTheStart (omega (arith, h, g .long)) ∙ g .left i (omega arith) ∙ ap (λ (k : ℕ). getD es₀ k atTheStart) (sym z))
+        ∙ ap (applied d) (element-any es i none atTheStart (omega (arith, h, g .long)) ∙ g .left i (omega arith) ∙ ap (λ (k : ℕ). getD es₀ k atTheStart) (sym z))
     at j l false t =
         let n = eqb-false j i t in
         getD-set-other es i j e atTheStart n ∙ g .done j (omega (arith, l, n))

@@ -28,11 +28,11 @@ module _ (s places : List ℕ) (r : Sofar) (fs : List Float) (is ls : List ℕ) 
   read-refused (suc n) l h = refl
 
 module _ (s places : List ℕ) (r : Sofar) (fs : List Float) (is ls : List ℕ) (t : Tables) where
-  -- a refusal
-  pub goes-refused : (o : Outcome Read) (m n l : ℕ) → (n ≡ 0 → ⊥) → o ≡ refused n l → Goes o m s places r (refusedAt r n l) fs is ls t
-  goes-refused o m n l h e =
+  -- a reading that has a refusal already
+  pub goes-ended : (q : Sofar) (o : Outcome Read) (m : ℕ) → (q .refusal ≡ 0 → ⊥) → o ≡ refused (q .refusal) (q .line) → Goes o m s places r q fs is ls t
+  goes-ended q o m h e =
       record {
-        means = read-refused s places r fs is ls t n l h ∙ sym e;
+        means = read-refused s places q fs is ls t (q .refusal) (q .line) h ∙ sym e;
         fits = λ z. absurd (h z);
         tabled = λ z. absurd (h z);
         lines = λ z. absurd (h z);
@@ -40,6 +40,10 @@ module _ (s places : List ℕ) (r : Sofar) (fs : List Float) (is ls : List ℕ) 
         few = λ z. absurd (h z);
         onward = λ z. absurd (h z);
       }
+
+  -- a refusal
+  pub goes-refused : (o : Outcome Read) (m n l : ℕ) → (n ≡ 0 → ⊥) → o ≡ refused n l → Goes o m s places r (refusedAt r n l) fs is ls t
+  goes-refused o m n l h e = goes-ended (refusedAt r n l) o m h e
 
   -- on behind one line
   pub goes-on : (q : Sofar) (end next : ℕ) (o : Outcome Read) → Begins s r end next → q .refusal ≡ 0 → q .at ≡ next → q .line ≡ r .line + 1

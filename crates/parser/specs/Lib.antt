@@ -1,4 +1,5 @@
 pub mod Columns
 pub mod Layout
+pub mod PartSteps
 pub mod Parts
 pub mod Sheets

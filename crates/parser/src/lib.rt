@@ -2,6 +2,8 @@
 
 pub mod ending;
 pub mod header;
+pub mod parts;
 pub mod reading;
 pub mod sofar;
 pub mod steps;
+pub mod walk;

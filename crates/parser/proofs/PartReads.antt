@@ -1,0 +1,136 @@
+-- A part's line as a step of the walk: what it makes of the parts, told of the whole reading. Assumes nothing.
+use mathlib.Core.Path.{_≡_, refl, sym, ap, ap₂, subst, _∙_}
+use mathlib.Core.List.{List, map}
+use Prim.Native.Nat.{ℕ, zero, suc, _+_, _*_, _≤_}
+use native.Mathlib.Omega.{arith}
+use lib.ListN.{length, take, drop, length-take}
+use lib.Ieee.{Float}
+use Rattle.text.specs.Lines.{lineOf}
+use Rattle.text.specs.Names.{between, namesIn}
+use Rattle.text.specs.Tokens.{namedOf}
+use Rattle.instrument.specs.Lines.{Line, releaseOf}
+use Rattle.sheet.specs.Refusals.{Outcome, going, refused, _>>=_}
+use Rattle.sheet.proofs.Outcomes.{then-going, then-refused}
+use Rattle.environment.specs.declared.environment.Environment.{Environment}
+use Rattle.part.specs.Body.{Book, Macro}
+use Rattle.part.specs.Columns.{macrosIn, bookIn}
+use Rattle.layout.specs.Layout.{linesFrom}
+use Rattle.parser.specs.declared.sofar.Sofar.{Sofar}
+use Rattle.parser.specs.Parts.{NamedPart, Played, linePlayed}
+use Rattle.parser.specs.Sheets.{Read, readOf, bookOf, partRead}
+use Rattle.parser.specs.Columns.{Tables, tablesOf, partsFrom, playedIn, playedOutcome, readIn, Fits, Tabled, Begins, Goes, Came, passedTo}
+use Rattle.parser.proofs.Going.{lined, goes-ended, goes-on}
+
+module _ (s places : List ℕ) (q : Sofar) (fs : List Float) (is ls : List ℕ) where
+  played-going : q .refusal ≡ 0 → playedOutcome s places q fs is ls ≡ going (playedIn s places q fs is ls)
+  unfolding playedOutcome
+  played-going e = rw (e, playedOutcome)
+
+  played-refused : (q .refusal ≡ 0 → ⊥) → playedOutcome s places q fs is ls ≡ refused (q .refusal) (q .line)
+  unfolding playedOutcome
+  played-refused n = go (q .refusal) refl
+    where
+      go : (k : ℕ) → q .refusal ≡ k → playedOutcome s places q fs is ls ≡ refused (q .refusal) (q .line)
+      go zero e = absurd (n e)
+      go (suc k) e = rw (e, playedOutcome)
+
+-- some of the first elements
+pub take-few : (n : ℕ) (xs : List Float) → n ≤ 32 → length (take n xs) ≤ 32
+take-few n xs h = omega (arith, h, length-take n xs)
+
+-- the same tables with the counts of another reading
+tabled-as : (r q : Sofar) (t : Tables) → q .macros ≡ r .macros → q .instruments ≡ r .instruments → Tabled r t → Tabled q t
+tabled-as r q t m i g =
+    record {
+      macros-few = omega (arith, m, g .macros-few);
+      instruments-few = omega (arith, i, g .instruments-few);
+      macros-length = g .macros-length;
+      bodies-length = g .bodies-length;
+      names-length = g .names-length;
+      sizes-length = g .sizes-length;
+      numbers-length = g .numbers-length;
+      shape-length = g .shape-length;
+      releases-length = g .releases-length;
+      releases = subst (λ (n : ℕ). take (n + 1) (t .releases) ≡ map releaseOf (linesFrom (t .sizes) (t .numbers) (t .shape) 0 (n + 1))) (sym i) (g .releases);
+    }
+
+module _ (rate : ℕ) (s places : List ℕ) (r : Sofar) (fs : List Float) (is ls ms bs ns zs : List ℕ) (xs : List Float) (ss : List ℕ) (rs : List Float) (end next : ℕ) (b : Begins s r end next) (g : Tabled r (tablesOf ms bs ns zs xs ss rs)) where
+  abbrev tables : Tables
+  tables = tablesOf ms bs ns zs xs ss rs
+
+  abbrev before : Read
+  before = readIn s places r fs is ls tables
+
+  abbrev text : List ℕ
+  text = lineOf (drop (r .at) s)
+
+  abbrev book : Book
+  book = bookIn rate s (take (2 * r .macros) ms) (take (2 * r .macros) bs) (take (2 * r .instruments) ns) (take (r .instruments + 1) rs)
+
+  abbrev said : Outcome Played
+  said = linePlayed book (r .start) (r .line) (namedOf (between s (r .at) end)) (playedIn s places r fs is ls)
+
+  same-book : book ≡ bookOf rate before
+  unfolding bookOf readIn
+  same-book =
+      ap (λ (v : List Float). record { macros = macrosIn s (take (2 * r .macros) ms) (take (2 * r .macros) bs); names = namesIn s (take (2 * r .instruments) ns); releases = v; rate = rate }) (g .releases)
+
+  says : said ≡ linePlayed (bookOf rate before) (r .start) (r .line) (namedOf text) (record { parts = before .parts; steps = before .steps })
+  unfolding playedIn readIn
+  says =
+      ap₂ (λ (k : Book) (l : List ℕ). linePlayed k (r .start) (r .line) (namedOf l) (playedIn s places r fs is ls)) same-book (lined s r end next b .line)
+
+  module _ (places′ : List ℕ) (q : Sofar) (fs′ : List Float) (is′ ls′ : List ℕ) (c : Came said s places′ r q fs′ is′ ls′) where
+    pub part-refuses : (q .refusal ≡ 0 → ⊥) → Goes (partRead rate (r .line) (namedOf text) before) 1 s places′ r q fs′ is′ ls′ tables
+    unfolding partRead readIn
+    part-refuses n =
+        goes-ended s places′ r fs′ is′ ls′ tables q _ 1 n
+        (then-refused (q .refusal) (q .line) _ _ (sym says ∙ sym (c .means) ∙ played-refused s places′ q fs′ is′ ls′ n))
+
+    abbrev after : Sofar
+    after = passedTo q (q .macros) (q .instruments) (q .line + 1) next
+
+    module _ (z : q .refusal ≡ 0) where
+      now-fits : Fits places′ after fs′ is′ ls′
+      now-fits =
+          let w = c .fits z in
+          record {
+            few = w .few;
+            start = w .start;
+            octaves = w .octaves;
+            counts = w .counts;
+            depths = w .depths;
+            all = w .all;
+            notes = w .notes;
+            envs-length = w .envs-length;
+            counts-length = w .counts-length;
+            depths-length = w .depths-length;
+            places-length = w .places-length;
+            floats-length = w .floats-length;
+            bytes-length = w .bytes-length;
+            loops-length = w .loops-length;
+          }
+
+      -- what has been read beside the parts is as before
+      reading : Environment → ℕ → ℕ → Read
+      reading e m i =
+          readOf
+          e
+          (partsFrom s places′ q fs′ is′ ls′ 0 (q .parts))
+          (macrosIn s (take (2 * m) ms) (take (2 * m) bs))
+          (namesIn s (take (2 * i) ns))
+          (linesFrom zs xs ss 0 (i + 1))
+          (q .steps)
+
+      kept : reading (r .start) (r .macros) (r .instruments) ≡ reading (q .start) (q .macros) (q .instruments)
+      kept =
+          ap (λ (e : Environment). reading e (r .macros) (r .instruments)) (sym (c .start))
+          ∙ ap₂ (λ (m i : ℕ). reading (q .start) m i) (sym (c .macros)) (sym (c .instruments))
+
+      pub part-goes : Goes (partRead rate (r .line) (namedOf text) before) 1 s places′ r after fs′ is′ ls′ tables
+      unfolding partRead readIn playedIn reading
+      part-goes =
+          goes-on s places′ r fs′ is′ ls′ tables after end next _ b z refl (ap (λ (l : ℕ). l + 1) (c .line z)) now-fits
+          (tabled-as r after tables (c .macros) (c .instruments) g)
+          (then-going (playedIn s places′ q fs′ is′ ls′) _ _ (sym says ∙ sym (c .means) ∙ played-going s places′ q fs′ is′ ls′ z)
+          ∙ ap going kept)

@@ -1,0 +1,121 @@
+-- `body_at` lends the part's regions to `read_part`. Assumes nothing.
+use Rattle.part.specs.Columns.{bookIn}
+use Rattle.parser.proofs.Playing.{body-came}
+use borrow.Author.Needs.{needs}
+use Rattle.parser.proofs.parts.body_at.Statement.{statement}
+use Rattle.parser.proofs.parts.body_at.Tie as tie
+
+mul-read-part : tie.Need-mul-read-part
+mul-read-part c = search needs
+
+mul-read-part-2 : tie.Need-mul-read-part-2
+mul-read-part-2 c = search needs
+
+add-read-part : tie.Need-add-read-part
+add-read-part c = search needs
+
+mul-read-part-3 : tie.Need-mul-read-part-3
+mul-read-part-3 c = search needs
+
+sub-read-part : tie.Need-sub-read-part
+sub-read-part c = search needs
+
+part-read-part-start : tie.Need-part-read-part-start
+part-read-part-start c = search needs
+
+part-read-part-end : tie.Need-part-read-part-end
+part-read-part-end c = search needs
+
+mul-read-part-4 : tie.Need-mul-read-part-4
+mul-read-part-4 c = search needs
+
+mul-read-part-5 : tie.Need-mul-read-part-5
+mul-read-part-5 c = search needs
+
+add-read-part-2 : tie.Need-add-read-part-2
+add-read-part-2 c = search needs
+
+sub-read-part-2 : tie.Need-sub-read-part-2
+sub-read-part-2 c = search needs
+
+part-read-part-start-2 : tie.Need-part-read-part-start-2
+part-read-part-start-2 c = search needs
+
+part-read-part-end-2 : tie.Need-part-read-part-end-2
+part-read-part-end-2 c = search needs
+
+mul-read-part-6 : tie.Need-mul-read-part-6
+mul-read-part-6 c = search needs
+
+mul-read-part-7 : tie.Need-mul-read-part-7
+mul-read-part-7 c = search needs
+
+add-read-part-3 : tie.Need-add-read-part-3
+add-read-part-3 c = search needs
+
+mul-read-part-8 : tie.Need-mul-read-part-8
+mul-read-part-8 c = search needs
+
+sub-read-part-3 : tie.Need-sub-read-part-3
+sub-read-part-3 c = search needs
+
+part-read-part-start-3 : tie.Need-part-read-part-start-3
+part-read-part-start-3 c = search needs
+
+part-read-part-end-3 : tie.Need-part-read-part-end-3
+part-read-part-end-3 c = search needs
+
+read-part-requires : tie.Need-read-part-requires
+read-part-requires c κs = search needs
+
+same-length : tie.Need-same-length
+same-length c = search needs
+
+same-length-2 : tie.Need-same-length-2
+same-length-2 c = search needs
+
+same-length-3 : tie.Need-same-length-3
+same-length-3 c = search needs
+
+returns : tie.Need-returns
+returns c =
+    let e = c .before .before .before .before .before .before in
+    let s = e .before .before .before .before .before .before .before .before .before .before .before .before .before in
+    let a = s .args in
+    let p = s .pre in
+    let l = e .read-part .last .1 .1 .1 .1 .1 .1 in
+    let k = e .read-part .kept .1 .1 .1 .1 .1 .1 in
+    body-came (bookIn (a .rate) (a .source .now) (a .macros .now) (a .bodies .now) (a .names .now) (a .releases .now)) (a .line) (a .text .now) (a .st) (e .read-part .result)
+    (a .k) (a .floats .now) (a .bytes .now) (a .loops .now) (l .0) (l .1 .0) (l .1 .1 .0)
+    (p .0) (p .1 .0) (p .1 .1 .0) (p .1 .1 .1 .0) (p .1 .1 .1 .1 .0) (p .1 .1 .1 .1 .1) (k .0) (k .1 .0) (k .1 .1 .0)
+    (e .read-part .ensures)
+
+pub body-at-spec : {M : Type 1} → statement M
+body-at-spec =
+    tie.close
+    (tie.spec
+    mul-read-part
+    mul-read-part-2
+    add-read-part
+    mul-read-part-3
+    sub-read-part
+    part-read-part-start
+    part-read-part-end
+    mul-read-part-4
+    mul-read-part-5
+    add-read-part-2
+    sub-read-part-2
+    part-read-part-start-2
+    part-read-part-end-2
+    mul-read-part-6
+    mul-read-part-7
+    add-read-part-3
+    mul-read-part-8
+    sub-read-part-3
+    part-read-part-start-3
+    part-read-part-end-3
+    read-part-requires
+    same-length
+    same-length-2
+    same-length-3
+    returns)
