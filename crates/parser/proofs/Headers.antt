@@ -73,11 +73,11 @@ few-names line name names =
     (λ a. holds-unless _ _ _ _ _ (λ b. holds-going (λ (x : List ℕ). (x ≡ name) × (length names + 1 < instrumentsMost)) name (refl, ltb-true _ _ b)))
 
 -- what the columns say of the lines
-block-going : (line : ℕ) (b : Block) (fs : List Float) (ss : List ℕ) → b .refusal ≡ 0 → blockOutcome line b fs ss ≡ going (linesIn (b .count) fs ss)
+pub block-going : (line : ℕ) (b : Block) (fs : List Float) (ss : List ℕ) → b .refusal ≡ 0 → blockOutcome line b fs ss ≡ going (linesIn (b .count) fs ss)
 unfolding blockOutcome
 block-going line b fs ss e = rw (e, blockOutcome)
 
-block-refused : (line : ℕ) (b : Block) (fs : List Float) (ss : List ℕ) → (b .refusal ≡ 0 → ⊥) → blockOutcome line b fs ss ≡ refused (b .refusal) (line + b .count)
+pub block-refused : (line : ℕ) (b : Block) (fs : List Float) (ss : List ℕ) → (b .refusal ≡ 0 → ⊥) → blockOutcome line b fs ss ≡ refused (b .refusal) (line + b .count)
 unfolding blockOutcome
 block-refused line b fs ss n = go (b .refusal) refl
   where

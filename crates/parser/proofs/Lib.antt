@@ -1,7 +1,9 @@
 pub mod Adding
 pub mod Answers
+pub mod Beginning
 pub mod Blocks
 pub mod Bodies
+pub mod Bytes
 pub mod Changing
 pub mod Closings
 pub mod Demand3

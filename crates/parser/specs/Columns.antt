@@ -5,7 +5,7 @@ use mathlib.Core.Path.{_≡_}
 use mathlib.Core.List.{List, [], _∷_, map}
 use mathlib.Core.Option.{none}
 use Prim.Native.Nat.{ℕ, zero, suc, _+_, _*_, _≤_, _<_}
-use lib.ListN.{length, take, drop, getD}
+use lib.ListN.{length, take, drop, getD, replicate}
 use lib.Ieee.{Float}
 use Rattle.text.specs.declared.lines.Line.{Line}
 use Rattle.text.specs.Lines.{linesOf, lineAt}
@@ -216,4 +216,23 @@ withEnvs r start envs =
       refusal = r .refusal;
       line = r .line;
       at = r .at;
+    }
+
+-- nothing is read yet
+unfoldable pub nothingSofar : Sofar
+unfolding atTheStart
+nothingSofar =
+    record {
+      start = atTheStart;
+      parts = 0;
+      envs = replicate partsMost atTheStart;
+      counts = replicate partsMost 0;
+      depths = replicate partsMost 0;
+      all = 0;
+      macros = 0;
+      instruments = 0;
+      steps = 0;
+      refusal = 0;
+      line = 1;
+      at = 0;
     }

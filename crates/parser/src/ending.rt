@@ -37,7 +37,7 @@ fn empty_sheet() -> Sheet
 }
 
 // The reading that a refusal ends.
-fn refused_reading(refusal: u32, line: usize) -> Reading
+pub(crate) fn refused_reading(refusal: u32, line: usize) -> Reading
     ensures { λ r. ⌜ r ≡ laidOut (refused refusal line) ⌝ }
 {
     Reading {

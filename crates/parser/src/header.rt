@@ -1,16 +1,17 @@
 // An instrument's header with the operator lines below it.
 
 ghost use mathlib.Core.Path.{_≡_};
-ghost use mathlib.Core.List.{List};
+ghost use mathlib.Core.List.{List, [], _∷_};
 ghost use Prim.Native.Nat.{ℕ, _+_, _*_, _≤_, _<_};
-ghost use lib.ListN.{length, drop, set};
+ghost use lib.ListN.{length, take, drop, set};
 ghost use lib.Ieee.{Float};
 ghost use Rattle.text.specs.Lines.{linesOf, lineOf};
 ghost use Rattle.instrument.specs.Lines.{releaseOf};
 ghost use Rattle.operators.specs.OperatorLines.{operatorLines};
 ghost use Rattle.commands.specs.Commands.{linesHeld};
+ghost use Rattle.layout.specs.Layout.{linesFrom};
 ghost use Rattle.layout.specs.Regions.{region};
-ghost use Rattle.parser.specs.Sheets.{headerRead};
+ghost use Rattle.parser.specs.Sheets.{plain, headerRead};
 ghost use Rattle.parser.specs.Columns.{tablesOf, readIn, Fits, Tabled, Begins, Goes, Blocked};
 use crate::sofar::Sofar;
 use crate::steps::refused;
@@ -67,6 +68,20 @@ fn kept(
     sizes[i] = b.count;
     releases[i] = release_at(numbers, shape, i, b.count);
     b
+}
+
+// The default instrument, `1 1 0 0 1 0`, read as any other.
+pub(crate) fn default_instrument(
+    sizes: &mut [usize],
+    numbers: &mut [f32],
+    shape: &mut [usize],
+    releases: &mut [f32],
+)
+    requires { ⌜ (length (now sizes) ≡ 32) × ((length (now numbers) ≡ 6144) × ((length (now shape) ≡ 2048) × (length (now releases) ≡ 32))) ⌝ }
+    ensures lines { λ _. ⌜ linesFrom (now (sizes .exit)) (now (numbers .exit)) (now (shape .exit)) 0 1 ≡ plain ∷ [] ⌝ }
+    ensures releases { λ _. ⌜ take 1 (now (releases .exit)) ≡ releaseOf plain ∷ [] ⌝ }
+{
+    kept(b"1 1 0 0 1 0", 0, sizes, numbers, shape, releases, 0);
 }
 
 // A header's line, and the operator lines below it.

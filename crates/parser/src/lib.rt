@@ -3,6 +3,7 @@
 pub mod ending;
 pub mod header;
 pub mod parts;
+pub mod reader;
 pub mod reading;
 pub mod sofar;
 pub mod steps;

@@ -1,0 +1,166 @@
+-- Where a reading begins: with the default instrument `1 1 0 0 1 0`, which the reader of operator lines reads too, and with nothing else. Assumes nothing.
+use mathlib.Core.Path.{_≡_, refl, sym, ap, subst, _∙_}
+use mathlib.Core.List.{List, [], _∷_, map}
+use mathlib.Core.Option.{none}
+use Prim.Native.Nat.{ℕ, zero, suc, _+_, _*_, _<_, _≤_}
+use native.Mathlib.Omega.{arith}
+use lib.ListN.{length, take, set, getD}
+use lib.Seq.{getD-set-same}
+use lib.Ieee.{Float, binary32, round, add, sub, mul, div, lt, ofBits, ofInt}
+use Rattle.text.specs.Quoted.{bytes}
+use Rattle.text.specs.Lines.{linesOf}
+use Rattle.instrument.specs.Lines.{Line, releaseOf}
+use Rattle.sheet.specs.Refusals.{Outcome, going, refused, _>>=_, _>>_, refuse_on_unless_, refuse_on_without_}
+use Rattle.environment.specs.Environment.{atTheStart}
+use Rattle.operators.specs.declared.block.Block.{Block}
+use Rattle.operators.specs.OperatorLines.{operatorLines, operatorsRead}
+use Rattle.operators.specs.Blocks.{linesIn, blockOutcome}
+use Rattle.commands.specs.Commands.{clipped, linesHeld}
+use Rattle.part.specs.Columns.{macrosIn}
+use Rattle.text.specs.Names.{namesIn}
+use Rattle.layout.specs.Regions.{region}
+use Rattle.layout.specs.Layout.{linesAt, linesFrom, notesFrom}
+use Rattle.layout.proofs.Regions.{region-length}
+use Rattle.parser.specs.declared.sofar.Sofar.{Sofar}
+use Rattle.parser.specs.Sheets.{plain, nothingRead}
+use Rattle.parser.specs.Columns.{Tables, tablesOf, partsFrom, readIn, Fits, Tabled, Blocked, nothingSofar}
+use Rattle.parser.proofs.Headers.{block-going, block-refused}
+use Rattle.parser.proofs.ReadLines.{held-whole}
+use Rattle.tables.proofs.Entries.{same-given}
+
+-- ---- the default instrument
+
+abbrev pub written : List ℕ
+written = bytes "1 1 0 0 1 0"
+
+plain-read : operatorsRead none 1 0 (operatorLines (linesOf written)) ≡ going plain
+unfolding operatorsRead operatorLines linesOf bytes _>>=_ _>>_ refuse_on_unless_ round add sub mul div lt ofBits ofInt
+plain-read = refl
+
+plain-whole : map clipped plain ≡ plain
+unfolding clipped
+plain-whole = refl
+
+module _ (b : Block) (fs : List Float) (ss : List ℕ) (e : blockOutcome 1 b fs ss ≡ going plain) where
+  plain-accepted : b .refusal ≡ 0
+  plain-accepted = go (b .refusal) refl
+    where
+      never : (n l : ℕ) → refused n l ≡ going plain → ⊥
+      never n l q = let z : _≡_ {A = ℕ} 0 1 = ap (λ (o : Outcome (List Line)). elim o [ going x ↦ 1 | refused i j ↦ 0 ]) q in absurd (omega (arith, z))
+
+      go : (k : ℕ) → b .refusal ≡ k → b .refusal ≡ 0
+      go zero q = q
+      go (suc k) q = absurd (never (b .refusal) (1 + b .count) (sym (block-refused 1 b fs ss (λ z. absurd (omega (arith, z, q)))) ∙ e))
+
+  plain-lines : linesIn (b .count) fs ss ≡ plain
+  plain-lines = same-given _ _ (sym (block-going 1 b fs ss plain-accepted) ∙ e)
+
+module _ (zs : List ℕ) (xs : List Float) (ss zs′ : List ℕ) (xs′ : List Float) (ss′ : List ℕ) (rs rs′ : List Float) (b : Block)
+    (lz : length zs ≡ 32) (lx : length xs′ ≡ 6144) (ls : length ss′ ≡ 2048) (lr : length rs ≡ 32) (q : Blocked written 0 0 b xs ss xs′ ss′) where
+  abbrev fs : List Float
+  fs = region 192 0 xs′
+
+  abbrev ts : List ℕ
+  ts = region 64 0 ss′
+
+  read : blockOutcome 1 b fs ts ≡ going plain
+  read = q .read 1 ∙ plain-read
+
+  default-accepted : b .refusal ≡ 0
+  default-accepted = plain-accepted b fs ts read
+
+  held : linesHeld (b .count) fs ts ≡ plain
+  held =
+      let l = plain-lines b fs ts read in
+      held-whole (b .count) fs ts (q .few) (region-length 192 0 xs′ (omega (arith, lx))) (region-length 64 0 ss′ (omega (arith, ls)))
+      (ap (map clipped) l ∙ plain-whole ∙ sym l)
+      ∙ l
+
+  default-lines : zs′ ≡ set zs 0 (b .count) → linesFrom zs′ xs′ ss′ 0 1 ≡ plain ∷ []
+  unfolding linesFrom linesAt
+  default-lines e =
+      ap (λ (n : ℕ). linesHeld n fs ts ∷ []) (ap (λ (x : List ℕ). getD x 0 0) e ∙ getD-set-same zs 0 (b .count) 0 (omega (arith, lz)))
+      ∙ ap (λ (l : List Line). l ∷ []) held
+
+  default-release : rs′ ≡ set rs 0 (releaseOf (linesHeld (b .count) fs ts)) → take 1 rs′ ≡ releaseOf plain ∷ []
+  default-release e = ap (take 1) e ∙ first rs lr (releaseOf (linesHeld (b .count) fs ts)) ∙ ap (λ (l : List Line). releaseOf l ∷ []) held
+    where
+      first : (ys : List Float) → length ys ≡ 32 → (x : Float) → take 1 (set ys 0 x) ≡ x ∷ []
+      first [] l x = absurd (omega (arith, l))
+      first (y ∷ ys) l x = refl
+
+  pub default-kept : (b .refusal ≡ 0 → zs′ ≡ set zs 0 (b .count)) → (b .refusal ≡ 0 → rs′ ≡ set rs 0 (releaseOf (linesHeld (b .count) fs ts)))
+      → (linesFrom zs′ xs′ ss′ 0 1 ≡ plain ∷ []) × (take 1 rs′ ≡ releaseOf plain ∷ [])
+  default-kept e f = (default-lines (e default-accepted), default-release (f default-accepted))
+
+-- ---- nothing else
+
+module _ (s places : List ℕ) (fs : List Float) (is ls : List ℕ) where
+  pub nothing-fits : length places ≡ 32 → length fs ≡ 98304 → length is ≡ 32768 → length ls ≡ 256 → Fits places nothingSofar fs is ls
+  unfolding nothingSofar atTheStart notesFrom
+  nothing-fits lp lf li ll =
+      record {
+        few = omega arith;
+        start = omega arith;
+        octaves = λ k h. absurd (omega (arith, h));
+        counts = λ k h. absurd (omega (arith, h));
+        depths = λ k h. absurd (omega (arith, h));
+        all = refl;
+        notes = omega arith;
+        envs-length = refl;
+        counts-length = refl;
+        depths-length = refl;
+        places-length = lp;
+        floats-length = lf;
+        bytes-length = li;
+        loops-length = ll;
+      }
+
+  module _ (ms bs ns zs : List ℕ) (xs : List Float) (ss : List ℕ) (rs : List Float) (d : linesFrom zs xs ss 0 1 ≡ plain ∷ []) where
+    pub nothing-tabled : length ms ≡ 128 → length bs ≡ 128 → length ns ≡ 64 → length zs ≡ 32 → length xs ≡ 6144 → length ss ≡ 2048 → length rs ≡ 32
+        → take 1 rs ≡ releaseOf plain ∷ [] → Tabled nothingSofar (tablesOf ms bs ns zs xs ss rs)
+    unfolding nothingSofar
+    nothing-tabled lm lb ln lz lx lss lr e =
+        record {
+          macros-few = omega arith;
+          instruments-few = omega arith;
+          macros-length = lm;
+          bodies-length = lb;
+          names-length = ln;
+          sizes-length = lz;
+          numbers-length = lx;
+          shape-length = lss;
+          releases-length = lr;
+          releases = e ∙ sym (ap (map releaseOf) d);
+        }
+
+    pub nothing-read : readIn s places nothingSofar fs is ls (tablesOf ms bs ns zs xs ss rs) ≡ nothingRead
+    unfolding nothingSofar readIn nothingRead partsFrom macrosIn namesIn
+    nothing-read = ap (λ (l : List (List Line)). record { start = atTheStart; parts = []; macros = []; names = []; instruments = l; steps = 0 }) d
+
+    -- what the walk asks of where it begins
+    pub begins : (r : Sofar) → r ≡ nothingSofar → length s ≤ 32768 → length places ≡ 32 → length fs ≡ 98304 → length is ≡ 32768 → length ls ≡ 256
+        → length ms ≡ 128 → length bs ≡ 128 → length ns ≡ 64 → length zs ≡ 32 → length xs ≡ 6144 → length ss ≡ 2048 → length rs ≡ 32
+        → take 1 rs ≡ releaseOf plain ∷ []
+        → (length s ≤ 32768)
+        × ((r .refusal ≡ 0) × ((r .at ≡ 0) × ((r .line ≡ 1) × (Fits places r fs is ls × Tabled r (tablesOf ms bs ns zs xs ss rs)))))
+    unfolding nothingSofar
+    begins r e small lp lf li ll lm lb ln lz lx lss lr t = (
+      small,
+      (
+        ap (λ (x : Sofar). x .refusal) e,
+        (
+          ap (λ (x : Sofar). x .at) e,
+          (
+            ap (λ (x : Sofar). x .line) e,
+            (
+              subst (λ (x : Sofar). Fits places x fs is ls) (sym e) (nothing-fits lp lf li ll),
+              subst (λ (x : Sofar). Tabled x (tablesOf ms bs ns zs xs ss rs)) (sym e) (nothing-tabled lm lb ln lz lx lss lr t),
+            ),
+          ),
+        ),
+      ),
+    )
+
+    pub begun-read : (r : Sofar) → r ≡ nothingSofar → readIn s places r fs is ls (tablesOf ms bs ns zs xs ss rs) ≡ nothingRead
+    begun-read r e = ap (λ (x : Sofar). readIn s places x fs is ls (tablesOf ms bs ns zs xs ss rs)) e ∙ nothing-read

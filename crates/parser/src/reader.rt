@@ -1,0 +1,110 @@
+// The reader of sheets (the Rust's `parser.rs`): what a source's bytes mean, or why they are refused.
+
+ghost use mathlib.Core.Path.{_≡_};
+ghost use Prim.Native.Nat.{ℕ, _≤_};
+ghost use lib.ListN.{length};
+ghost use Rattle.text.specs.Lines.{linesOf};
+ghost use Rattle.sheet.specs.Refusals.{_>>=_ as _then_};
+ghost use Rattle.parser.specs.Columns.{nothingSofar};
+ghost use Rattle.parser.specs.Layout.{laidOut, readingOf};
+ghost use Rattle.parser.specs.Sheets.{nothingRead, linesRead, ended, allBelow128};
+use crate::ending::finished;
+use crate::ending::refused_reading;
+use crate::header::default_instrument;
+use crate::reading::Reading;
+use crate::sofar::Sofar;
+use crate::walk::walk;
+use environment::environment::Environment;
+
+// Nothing is read yet.
+fn nothing_sofar() -> Sofar
+    ensures { λ r. ⌜ r ≡ nothingSofar ⌝ }
+{
+    let start = Environment::new();
+    Sofar {
+        start,
+        parts: 0,
+        envs: [start; 16],
+        counts: [0; 16],
+        depths: [0; 16],
+        all: 0,
+        macros: 0,
+        instruments: 0,
+        steps: 0,
+        refusal: 0,
+        line: 1,
+        at: 0,
+    }
+}
+
+// The lines of a source, with tables and columns for all that the capacities allow.
+fn read_lines(source: &[u8], rate: u32) -> Reading
+    requires { ⌜ length (now source) ≤ 32768 ⌝ }
+    ensures { λ r. ⌜ r ≡ laidOut (linesRead rate 0 1 (linesOf (now (source .entry))) nothingRead then (λ x. ended rate x)) ⌝ }
+{
+    let mut macros = [0usize; 128];
+    let mut bodies = [0usize; 128];
+    let mut names = [0usize; 64];
+    let mut sizes = [0usize; 32];
+    let mut numbers = [0.0f32; 6144];
+    let mut shape = [0usize; 2048];
+    let mut releases = [0.0f32; 32];
+    let mut places = [0usize; 32];
+    let mut floats = [0.0f32; 98304];
+    let mut bytes = [0u8; 32768];
+    let mut loops = [0usize; 256];
+    default_instrument(&mut sizes, &mut numbers, &mut shape, &mut releases);
+    let q = walk(
+        source,
+        &mut macros,
+        &mut bodies,
+        &mut names,
+        &mut sizes,
+        &mut numbers,
+        &mut shape,
+        &mut releases,
+        &mut places,
+        &mut floats,
+        &mut bytes,
+        &mut loops,
+        nothing_sofar(),
+        rate,
+    );
+    finished(
+        &floats,
+        &bytes,
+        &numbers,
+        &shape,
+        &sizes,
+        &releases,
+        q,
+        rate,
+    )
+}
+
+// Whether all bytes are below 128.
+fn all_below_128(source: &[u8]) -> bool
+    ensures { λ r. ⌜ r ≡ allBelow128 (now (source .entry)) ⌝ }
+{
+    let mut i = 0;
+    while i < source.len() {
+        if source[i] >= 128 {
+            return false;
+        }
+        i += 1;
+    }
+    true
+}
+
+// What a source is read as: a refusal with its line, or a sheet with the steps that were read.
+pub fn read(source: &[u8]) -> Reading
+    ensures { λ r. ⌜ r ≡ readingOf 44100 (now (source .entry)) ⌝ }
+{
+    if source.len() > 32768 {
+        return refused_reading(1, 0);
+    }
+    if !all_below_128(source) {
+        return refused_reading(2, 0);
+    }
+    read_lines(source, 44100)
+}
