@@ -16,7 +16,7 @@ use Rattle.environment.specs.Environment.{atTheStart}
 use Rattle.part.specs.Body.{Book}
 use Rattle.tables.specs.Tables.{withEntry}
 use Rattle.parser.specs.declared.sofar.Sofar.{Sofar}
-use Rattle.parser.specs.Parts.{NamedPart, notesOf, linePlayed}
+use Rattle.meaning.specs.Parts.{NamedPart, notesOf, linePlayed}
 use Rattle.parser.specs.Columns.{partAt, partsFrom, playedIn, playedOutcome, Fits, Came}
 use Rattle.parser.specs.PartSteps.{refusedWith, withNew, calledAs, LineCame}
 use Rattle.parser.proofs.NamedParts.{called-length, called-last, same-self, among-most, among-last, named-none, notes-last, fresh, lineOf, line-new, line-full}

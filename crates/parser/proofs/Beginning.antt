@@ -22,7 +22,7 @@ use Rattle.layout.specs.Regions.{region}
 use Rattle.layout.specs.Layout.{linesAt, linesFrom, notesFrom}
 use Rattle.layout.proofs.Regions.{region-length}
 use Rattle.parser.specs.declared.sofar.Sofar.{Sofar}
-use Rattle.parser.specs.Sheets.{plain, nothingRead}
+use Rattle.meaning.specs.Sheets.{plain, nothingRead}
 use Rattle.parser.specs.Columns.{Tables, tablesOf, partsFrom, readIn, Fits, Tabled, Blocked, nothingSofar}
 use Rattle.parser.proofs.Headers.{block-going, block-refused}
 use Rattle.parser.proofs.ReadLines.{held-whole}

@@ -10,8 +10,8 @@ use lib.Seq.{drop-cons}
 use borrow.Author.Tests.{lt-ltb, le-ltb, lt-leb, le-leb}
 use Rattle.text.specs.Lines.{linesOf}
 use Rattle.sheet.specs.Refusals.{refused, _>>=_, _>>_, refuse_on_unless_}
-use Rattle.parser.specs.Layout.{laidOut, readingOf}
-use Rattle.parser.specs.Sheets.{nothingRead, linesRead, ended, allBelow128, sheetRead}
+use Rattle.meaning.specs.Layout.{laidOut, readingOf}
+use Rattle.meaning.specs.Sheets.{nothingRead, linesRead, ended, allBelow128, sheetRead}
 
 module _ (s : List ℕ) (i : ℕ) where
   pub below-end : length s ≤ i → allBelow128 (drop i s) ≡ true

@@ -14,11 +14,11 @@ use Rattle.sheet.proofs.Outcomes.{then-going, then-refused}
 use Rattle.part.specs.Columns.{loopsIn}
 use Rattle.layout.specs.Layout.{longestFrom, linesFrom}
 use Rattle.layout.specs.Regions.{region}
-use Rattle.parser.specs.declared.reading.Reading.{Reading}
+use Rattle.meaning.specs.declared.reading.Reading.{Reading}
 use Rattle.parser.specs.declared.sofar.Sofar.{Sofar}
-use Rattle.parser.specs.Sheets.{Read, anyOpen, lengthFrom, lengthRead, ended}
+use Rattle.meaning.specs.Sheets.{Read, anyOpen, lengthFrom, lengthRead, ended}
 use Rattle.parser.specs.Columns.{partAt, partsFrom, Tables, readIn, readOutcome, Fits}
-use Rattle.parser.specs.Layout.{laidOut}
+use Rattle.meaning.specs.Layout.{laidOut}
 use Rattle.parser.proofs.Going.{read-going, read-refused}
 use Rattle.parser.proofs.Sheeting.{parts-many, parts-longest}
 

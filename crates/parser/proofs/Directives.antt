@@ -15,8 +15,8 @@ use Rattle.directive.specs.declared.directive.Directive.{Directive}
 use Rattle.directive.specs.Directives.{directiveOf, directiveOutcome, applied}
 use Rattle.tables.specs.Tables.{numberOf}
 use Rattle.parser.specs.declared.sofar.Sofar.{Sofar}
-use Rattle.parser.specs.Parts.{NamedPart, everyPart}
-use Rattle.parser.specs.Sheets.{Read, readOf, directiveRead}
+use Rattle.meaning.specs.Parts.{NamedPart, everyPart}
+use Rattle.meaning.specs.Sheets.{Read, readOf, directiveRead}
 use Rattle.parser.specs.Columns.{partAt, partsFrom, Tables, readIn, Fits, Tabled, Begins, Goes, refusedAt, passedTo, withEnvs}
 use Rattle.parser.proofs.Numbers.{directive-numbered, directive-going, directive-refused, applied-octave}
 use Rattle.parser.proofs.Going.{lined, goes-refused, goes-on}

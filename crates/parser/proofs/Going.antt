@@ -10,7 +10,7 @@ use Rattle.text.specs.Names.{between}
 use Rattle.text.proofs.LinePlaces.{Lined, line-placed}
 use Rattle.sheet.specs.Refusals.{Outcome, going, refused}
 use Rattle.parser.specs.declared.sofar.Sofar.{Sofar}
-use Rattle.parser.specs.Sheets.{Read}
+use Rattle.meaning.specs.Sheets.{Read}
 use Rattle.parser.specs.Columns.{Tables, readIn, readOutcome, Fits, Tabled, Begins, Goes, refusedAt}
 
 -- where the line stands

@@ -29,7 +29,7 @@ use Rattle.tables.specs.Tables.{headerOf, headerLine, numberOf, headersAfter}
 use Rattle.tables.proofs.NamesGrown.{names-grown}
 use Rattle.tables.proofs.Taken.{names-many}
 use Rattle.parser.specs.declared.sofar.Sofar.{Sofar}
-use Rattle.parser.specs.Sheets.{Read, readOf, headerRead}
+use Rattle.meaning.specs.Sheets.{Read, readOf, headerRead}
 use Rattle.parser.specs.Columns.{Tables, tablesOf, readIn, Fits, Tabled, Begins, Goes, Blocked, refusedAt, passedTo}
 use Rattle.parser.proofs.Numbers.{At, header-at, at-refused, at-number, number-of}
 use Rattle.parser.proofs.Going.{lined, read-going, goes-refused}

@@ -1,12 +1,10 @@
 pub mod Adding
-pub mod Answers
 pub mod Beginning
 pub mod Blocks
 pub mod Bodies
 pub mod Bytes
 pub mod Changing
 pub mod Closings
-pub mod Demand3
 pub mod Directives
 pub mod Going
 pub mod Headers
@@ -20,7 +18,4 @@ pub mod PartReads
 pub mod Playing
 pub mod ReadLines
 pub mod Sheeting
-pub mod Starred
-pub mod StepCount
-pub mod Throughout
 pub mod Walking

@@ -15,7 +15,7 @@ use Rattle.text.proofs.Rows.{row-none}
 use Rattle.sheet.specs.Refusals.{Outcome, going}
 use Rattle.operators.specs.OperatorLines.{operatorLines}
 use Rattle.parser.specs.declared.sofar.Sofar.{Sofar}
-use Rattle.parser.specs.Sheets.{Read, Kind, skipped, headerLine, directiveLine, macroLine, partLine, headerRead, directiveRead, macroRead, partRead, kindOf, takenBy, lineRead}
+use Rattle.meaning.specs.Sheets.{Read, Kind, skipped, headerLine, directiveLine, macroLine, partLine, headerRead, directiveRead, macroRead, partRead, kindOf, takenBy, lineRead}
 use Rattle.parser.specs.Columns.{Tables, readIn, Fits, Tabled, Begins, Goes, passedTo}
 use Rattle.parser.proofs.Going.{lined, goes-on}
 

@@ -20,7 +20,7 @@ use Rattle.tables.specs.Tables.{macroOf, macroLine, numberOf, namesAfter, bodie
 use Rattle.tables.proofs.MacrosGrown.{macros-grown}
 use Rattle.tables.proofs.Taken.{macros-many}
 use Rattle.parser.specs.declared.sofar.Sofar.{Sofar}
-use Rattle.parser.specs.Sheets.{Read, readOf, macroRead}
+use Rattle.meaning.specs.Sheets.{Read, readOf, macroRead}
 use Rattle.parser.specs.Columns.{Tables, tablesOf, readIn, Fits, Tabled, Begins, Goes, refusedAt, passedTo}
 use Rattle.parser.proofs.Numbers.{At, macro-at, at-refused, at-number, number-of}
 use Rattle.parser.proofs.Going.{lined, goes-refused, goes-on}

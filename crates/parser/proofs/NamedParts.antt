@@ -18,7 +18,7 @@ use Rattle.sheet.specs.declared.note.Note.{Note}
 use Rattle.sheet.proofs.Outcomes.{then-going, then-refused}
 use Rattle.environment.specs.declared.environment.Environment.{Environment}
 use Rattle.part.specs.Body.{Part, Book, Progress, bodyRead}
-use Rattle.parser.specs.Parts.{NamedPart, Played, notesOf, partNamed, withPartNamed, partOf, linePlayed}
+use Rattle.meaning.specs.Parts.{NamedPart, Played, notesOf, partNamed, withPartNamed, partOf, linePlayed}
 use Rattle.parser.specs.PartSteps.{calledAs}
 
 pub same-self : (s : List ℕ) → same s s ≡ true

@@ -21,7 +21,7 @@ use Rattle.part.specs.Body.{Book}
 use Rattle.tables.specs.Tables.{withEntry}
 use Rattle.tables.proofs.MacroLines.{name-ends}
 use Rattle.parser.specs.declared.sofar.Sofar.{Sofar}
-use Rattle.parser.specs.Parts.{linePlayed}
+use Rattle.meaning.specs.Parts.{linePlayed}
 use Rattle.parser.specs.Columns.{partsFrom, playedIn, Fits, Came}
 use Rattle.parser.specs.PartSteps.{refusedWith, withNew, WithPart, calledAs, LineCame}
 use Rattle.parser.proofs.Playing.{played-going}

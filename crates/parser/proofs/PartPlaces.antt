@@ -19,7 +19,7 @@ use Rattle.layout.specs.Regions.{region}
 use Rattle.layout.specs.Layout.{notesAt, notesFrom}
 use Rattle.layout.proofs.Regions.{region-length}
 use Rattle.parser.specs.declared.sofar.Sofar.{Sofar}
-use Rattle.parser.specs.Parts.{NamedPart, notesOf}
+use Rattle.meaning.specs.Parts.{NamedPart, notesOf}
 use Rattle.parser.specs.Columns.{partAt, partsFrom}
 use Rattle.parser.specs.PartSteps.{calledAs}
 

@@ -16,8 +16,8 @@ use Rattle.part.specs.Body.{Book, Macro}
 use Rattle.part.specs.Columns.{macrosIn, bookIn}
 use Rattle.layout.specs.Layout.{linesFrom}
 use Rattle.parser.specs.declared.sofar.Sofar.{Sofar}
-use Rattle.parser.specs.Parts.{NamedPart, Played, linePlayed}
-use Rattle.parser.specs.Sheets.{Read, readOf, bookOf, partRead}
+use Rattle.meaning.specs.Parts.{NamedPart, Played, linePlayed}
+use Rattle.meaning.specs.Sheets.{Read, readOf, bookOf, partRead}
 use Rattle.parser.specs.Columns.{Tables, tablesOf, partsFrom, playedIn, playedOutcome, readIn, Fits, Tabled, Begins, Goes, Came, passedTo}
 use Rattle.parser.proofs.Going.{lined, goes-ended, goes-on}
 

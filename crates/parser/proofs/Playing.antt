@@ -25,7 +25,7 @@ use Rattle.layout.specs.Regions.{region}
 use Rattle.layout.specs.Layout.{notesAt, notesFrom}
 use Rattle.layout.proofs.Regions.{lent, back, lent-region, region-length, back-here, back-beside, back-length}
 use Rattle.parser.specs.declared.sofar.Sofar.{Sofar}
-use Rattle.parser.specs.Parts.{NamedPart, Played, notesOf, withPartNamed, linePlayed}
+use Rattle.meaning.specs.Parts.{NamedPart, Played, notesOf, withPartNamed, linePlayed}
 use Rattle.parser.specs.Columns.{partAt, partsFrom, playedIn, playedOutcome, Fits, Came}
 use Rattle.parser.specs.PartSteps.{stateOf, refusedWith, keptWith, storedAs, Beside, BodyCame, ReadyAt, bodyAt, calledAs, LineCame}
 use Rattle.parser.proofs.Bodies.{Others, body-numbered, body-others}

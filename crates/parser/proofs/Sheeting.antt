@@ -19,12 +19,12 @@ use Rattle.commands.specs.Commands.{instrumentOf}
 use Rattle.layout.specs.Layout.{notesAt, notesFrom, longestFrom, linesFrom}
 use Rattle.layout.proofs.Laid.{notes-many}
 use Rattle.layout.proofs.Tables.{instruments-many}
-use Rattle.parser.specs.declared.reading.Reading.{Reading}
+use Rattle.meaning.specs.declared.reading.Reading.{Reading}
 use Rattle.parser.specs.declared.sofar.Sofar.{Sofar}
-use Rattle.parser.specs.Parts.{NamedPart, notesOf}
-use Rattle.parser.specs.Sheets.{lengthFrom}
+use Rattle.meaning.specs.Parts.{NamedPart, notesOf}
+use Rattle.meaning.specs.Sheets.{lengthFrom}
 use Rattle.parser.specs.Columns.{partAt, partsFrom, Tables, readIn, Fits, Tabled}
-use Rattle.parser.specs.Layout.{sheetOf, laidOut}
+use Rattle.meaning.specs.Layout.{sheetOf, laidOut}
 
 -- ---- parts
 

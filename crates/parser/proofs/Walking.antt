@@ -12,7 +12,7 @@ use Rattle.text.proofs.LinePlaces.{Lined, line-placed}
 use Rattle.sheet.specs.Refusals.{Outcome, going, refused, _>>=_}
 use Rattle.sheet.proofs.Outcomes.{then-going, then-refused}
 use Rattle.parser.specs.declared.sofar.Sofar.{Sofar}
-use Rattle.parser.specs.Sheets.{Read, kindOf, takenBy, lineRead, linesRead}
+use Rattle.meaning.specs.Sheets.{Read, kindOf, takenBy, lineRead, linesRead}
 use Rattle.parser.specs.Columns.{Tables, readIn, readOutcome, Fits, Tabled, Begins, Goes}
 use Rattle.parser.proofs.Going.{read-going, read-refused}
 

@@ -22,8 +22,8 @@ use Rattle.part.specs.Columns.{loopsIn, macrosIn}
 use Rattle.layout.specs.Regions.{region}
 use Rattle.layout.specs.Layout.{notesAt, notesFrom, linesFrom}
 use Rattle.parser.specs.declared.sofar.Sofar.{Sofar}
-use Rattle.parser.specs.Parts.{NamedPart, Played}
-use Rattle.parser.specs.Sheets.{Read, readOf}
+use Rattle.meaning.specs.Parts.{NamedPart, Played}
+use Rattle.meaning.specs.Sheets.{Read, readOf}
 
 -- ---- parts
 

@@ -18,7 +18,7 @@ use Rattle.tables.specs.Tables.{withEntry}
 use Rattle.layout.specs.Regions.{region}
 use Rattle.parser.specs.declared.sofar.Sofar.{Sofar}
 use Rattle.parser.specs.Columns.{partsFrom, playedIn, Fits, Came}
-use Rattle.parser.specs.Parts.{NamedPart, linePlayed}
+use Rattle.meaning.specs.Parts.{NamedPart, linePlayed}
 
 -- ---- a part's state
 

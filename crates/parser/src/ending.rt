@@ -10,15 +10,15 @@ ghost use Rattle.sheet.specs.Capacities.{partsMost};
 ghost use Rattle.sheet.specs.Refusals.{going, refused, _>>=_ as _then_};
 ghost use Rattle.layout.specs.Layout.{linesFrom};
 ghost use Rattle.parser.specs.declared.sofar.Sofar.{Sofar};
-ghost use Rattle.parser.specs.Layout.{laidOut, sheetOf};
-ghost use Rattle.parser.specs.Sheets.{ended, anyOpen};
+ghost use Rattle.meaning.specs.Layout.{laidOut, sheetOf};
+ghost use Rattle.meaning.specs.Sheets.{ended, anyOpen};
 ghost use Rattle.parser.specs.Columns.{Tables, tablesOf, partsFrom, readIn, readOutcome, Fits, Tabled};
-use crate::reading::Reading;
 use crate::sofar::Sofar;
 use layout::instruments::table_of;
 use layout::parts::counts_of;
 use layout::parts::longest;
 use layout::parts::notes_of;
+use meaning::reading::Reading;
 use sheet::sheet::Sheet;
 use text::names::least;
 

@@ -11,7 +11,7 @@ ghost use Rattle.operators.specs.OperatorLines.{operatorLines};
 ghost use Rattle.commands.specs.Commands.{linesHeld};
 ghost use Rattle.layout.specs.Layout.{linesFrom};
 ghost use Rattle.layout.specs.Regions.{region};
-ghost use Rattle.parser.specs.Sheets.{plain, headerRead};
+ghost use Rattle.meaning.specs.Sheets.{plain, headerRead};
 ghost use Rattle.parser.specs.Columns.{tablesOf, readIn, Fits, Tabled, Begins, Goes, Blocked};
 use crate::sofar::Sofar;
 use crate::steps::refused;

@@ -4,7 +4,6 @@ pub mod ending;
 pub mod header;
 pub mod parts;
 pub mod reader;
-pub mod reading;
 pub mod sofar;
 pub mod steps;
 pub mod walk;

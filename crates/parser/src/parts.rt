@@ -7,7 +7,7 @@ ghost use lib.ListN.{length, take, getD};
 ghost use Rattle.text.specs.Names.{between, namesIn, placeAmong};
 ghost use Rattle.text.specs.Tokens.{namedOf};
 ghost use Rattle.part.specs.Columns.{bookIn};
-ghost use Rattle.parser.specs.Parts.{linePlayed};
+ghost use Rattle.meaning.specs.Parts.{linePlayed};
 ghost use Rattle.parser.specs.Columns.{playedIn, Fits, Came};
 ghost use Rattle.parser.specs.PartSteps.{stateOf, storedAs, WithPart, ReadyAt, bodyAt, BodyCame, LineCame};
 use crate::sofar::Sofar;

@@ -9,7 +9,7 @@ ghost use Rattle.text.specs.Lines.{lineOf};
 ghost use Rattle.environment.specs.Environment.{atTheStart};
 ghost use Rattle.directive.specs.Directives.{directiveOutcome, applied};
 ghost use Rattle.tables.specs.Tables.{numberOf};
-ghost use Rattle.parser.specs.Sheets.{directiveRead, macroRead};
+ghost use Rattle.meaning.specs.Sheets.{directiveRead, macroRead};
 ghost use Rattle.parser.specs.Columns.{Tables, tablesOf, readIn, Fits, Tabled, Begins, Goes, refusedAt, passedTo, withEnvs};
 use crate::sofar::Sofar;
 use directive::directive::Directive;

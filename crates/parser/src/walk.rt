@@ -7,7 +7,7 @@ ghost use lib.ListN.{length, drop};
 ghost use lib.Ieee.{Float};
 ghost use Rattle.text.specs.Lines.{linesOf, lineOf};
 ghost use Rattle.text.specs.Tokens.{namedOf};
-ghost use Rattle.parser.specs.Sheets.{partRead, kindOf, takenBy, lineRead, linesRead};
+ghost use Rattle.meaning.specs.Sheets.{partRead, kindOf, takenBy, lineRead, linesRead};
 ghost use Rattle.parser.specs.Columns.{tablesOf, readIn, readOutcome, Fits, Tabled, Begins, Goes};
 use crate::header::header_step;
 use crate::parts::part_step;

@@ -2,7 +2,7 @@
 use mathlib.Core.Path.{ap}
 use borrow.Author.Needs.{needs}
 use Rattle.sheet.specs.declared.sheet.Sheet.{Sheet}
-use Rattle.parser.specs.Layout.{laidOut}
+use Rattle.meaning.specs.Layout.{laidOut}
 use Rattle.parser.proofs.ending.refused_reading.Statement.{statement}
 use Rattle.parser.proofs.ending.refused_reading.Tie as tie
 

@@ -3,7 +3,7 @@ use mathlib.Core.Path.{_≡_, refl, sym, _∙_}
 use Prim.Native.Nat.{_-_, _≤_}
 use native.Mathlib.Omega.{arith}
 use lib.ListN.{length, drop}
-use Rattle.parser.specs.Sheets.{allBelow128}
+use Rattle.meaning.specs.Sheets.{allBelow128}
 use Rattle.parser.proofs.Bytes.{below-end, below-more, below-stop}
 use borrow.Author.Needs.{needs}
 use Rattle.parser.proofs.reader.all_below_128.Statement.{statement}

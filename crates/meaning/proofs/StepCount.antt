@@ -12,9 +12,9 @@ use Rattle.text.specs.Tokens.{Named}
 use Rattle.environment.specs.declared.environment.Environment.{Environment}
 use Rattle.part.specs.Body.{Book, bodyRead}
 use Rattle.part.proofs.StepCount.{Counted, body-counted}
-use Rattle.parser.proofs.Throughout.{KeptByLines, of-accepted}
-use Rattle.parser.specs.Parts.{Played, notesOf, partNamed, withPartNamed, partOf, linePlayed}
-use Rattle.parser.specs.Sheets.{Read, readOf, bookOf, headerRead, directiveRead, macroRead, partRead, nothingRead, sheetRead}
+use Rattle.meaning.proofs.Throughout.{KeptByLines, of-accepted}
+use Rattle.meaning.specs.Parts.{Played, notesOf, partNamed, withPartNamed, partOf, linePlayed}
+use Rattle.meaning.specs.Sheets.{Read, readOf, bookOf, headerRead, directiveRead, macroRead, partRead, nothingRead, sheetRead}
 
 -- no more than the limit
 abbrev Kept : Read → Type 0

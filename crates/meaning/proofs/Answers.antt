@@ -8,8 +8,8 @@ use Rattle.instrument.specs.declared.machine.Command.{Command}
 use Rattle.instrument.specs.Lines.{Line, commandsOf}
 use Rattle.sheet.specs.declared.note.Note.{Note}
 use Rattle.sheet.specs.Refusals.{Outcome, going, refused}
-use Rattle.parser.specs.Parts.{NamedPart}
-use Rattle.parser.specs.Sheets.{Read, sheetRead, lengthRead}
+use Rattle.meaning.specs.Parts.{NamedPart}
+use Rattle.meaning.specs.Sheets.{Read, sheetRead, lengthRead}
 
 pub record Answer : Type 0 where
   pub notes : List (List Note)

@@ -24,10 +24,10 @@ use Rattle.sheet.specs.Refusals.{going}
 use Rattle.sheet.proofs.Holds.{Holds, holds-going, holds-then, holds-after}
 use Rattle.operators.specs.OperatorLines.{operatorLines, operatorsRead}
 use Rattle.operators.proofs.Indents.{AllFit, all-fit}
-use Rattle.parser.proofs.Throughout.{KeptByLines, of-accepted}
+use Rattle.meaning.proofs.Throughout.{KeptByLines, of-accepted}
 use Rattle.commands.specs.Commands.{noCommand, instrumentOf}
 use Rattle.sheet.specs.Padding.{padded}
-use Rattle.parser.specs.Sheets.{Read, readOf, plain, headerRead, directiveRead, macroRead, partRead, nothingRead, sheetRead}
+use Rattle.meaning.specs.Sheets.{Read, readOf, plain, headerRead, directiveRead, macroRead, partRead, nothingRead, sheetRead}
 
 -- ---- a fact of every instrument
 

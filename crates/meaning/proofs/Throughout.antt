@@ -7,7 +7,7 @@ use Rattle.text.specs.Lines.{linesOf}
 use Rattle.text.specs.Tokens.{Named, namedOf}
 use Rattle.sheet.specs.Refusals.{going}
 use Rattle.sheet.proofs.Holds.{Holds, holds-going, holds-of, holds-unless, holds-if, holds-then}
-use Rattle.parser.specs.Sheets.{Read, Kind, skipped, headerLine, directiveLine, macroLine, partLine, headerRead, directiveRead, macroRead, partRead, kindOf, takenBy, lineRead, linesRead, nothingRead, ended, sheetRead}
+use Rattle.meaning.specs.Sheets.{Read, Kind, skipped, headerLine, directiveLine, macroLine, partLine, headerRead, directiveRead, macroRead, partRead, kindOf, takenBy, lineRead, linesRead, nothingRead, ended, sheetRead}
 
 -- what each kind of line owes
 pub record KeptByLines (P : Read → Type 0) (rate : ℕ) : Type 0 where

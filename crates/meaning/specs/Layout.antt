@@ -9,9 +9,9 @@ use Rattle.sheet.specs.Padding.{padded, silence}
 use Rattle.sheet.specs.declared.sheet.Sheet.{Sheet}
 use Rattle.sheet.specs.Capacities.{partsMost, notesMost, instrumentsMost}
 use Rattle.sheet.specs.Refusals.{Outcome, going, refused}
-use Rattle.parser.specs.declared.reading.Reading.{Reading}
-use Rattle.parser.specs.Parts.{NamedPart, notesOf}
-use Rattle.parser.specs.Sheets.{Read, sheetRead}
+use Rattle.meaning.specs.declared.reading.Reading.{Reading}
+use Rattle.meaning.specs.Parts.{NamedPart, notesOf}
+use Rattle.meaning.specs.Sheets.{Read, sheetRead}
 
 -- the sheet of parts and instruments
 unfoldable pub sheetOf : List NamedPart → List (List Line) → Sheet

@@ -10,7 +10,7 @@ use Rattle.instrument.specs.declared.machine.Command.{Command}
 use Rattle.instrument.specs.declared.machine.Command.the-variants as Command
 use Rattle.sheet.specs.declared.note.Note.{Note}
 use Rattle.sheet.specs.Refusals.{Outcome, going, refused, _>>=_, _>>_, refuse_on_unless_, refuse_on_if_, refuse_on_without_}
-use Rattle.parser.proofs.Answers.{Answer, answer}
+use Rattle.meaning.proofs.Answers.{Answer, answer}
 
 -- a note of 0.6 seconds, a quarter at tempo 100, on the default instrument: its amplitude and its frequency by their bits
 abbrev pub quarter : ℕ → ℕ → Note

@@ -21,7 +21,7 @@ use Rattle.part.specs.Body.{Macro, Book}
 use Rattle.tables.specs.Tables.{macroOf, headerOf}
 use Rattle.notes.specs.Lengths.{endOf}
 use Rattle.directive.specs.Directives.{directiveOf}
-use Rattle.parser.specs.Parts.{NamedPart, everyPart, linePlayed}
+use Rattle.meaning.specs.Parts.{NamedPart, everyPart, linePlayed}
 
 -- ---- what has been read so far
 

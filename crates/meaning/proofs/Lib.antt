@@ -1,0 +1,5 @@
+pub mod Answers
+pub mod Demand3
+pub mod Starred
+pub mod StepCount
+pub mod Throughout
