@@ -29,7 +29,8 @@ OUTSIDE = {
 class Case:
     """A sheet, where it comes from, the model's answer and, inside the domain, the Rust's.
 
-    `written` is the answer that is known without either, if one is.
+    `written` is the answer that is known without either, if one is. `read` is the proved reader's
+    answer in bytes, once it was asked.
     """
 
     def __init__(self, label, sheet, written=None):
@@ -38,6 +39,7 @@ class Case:
         self.written = written
         self.answer = model.answer(sheet)
         self.rust = {}
+        self.read = b""
 
     @property
     def number(self):
@@ -106,20 +108,28 @@ def fault_of(case, powers):
     return None
 
 
-def difference(name, got, wanted):
+def difference(name, got, wanted, judged_by="the model"):
     """The first line in which two answers part."""
     pairs = zip(got + ["(end)"], wanted + ["(end)"])
     a, b = next((a, b) for a, b in pairs if a != b)
-    return f"{name} gives `{a}` where the model gives `{b}`"
+    return f"{name} gives `{a}` where {judged_by} gives `{b}`"
+
+
+def faults(cases, wrong):
+    """The cases with which something is wrong, each with what it is."""
+    found = [(case, wrong(case)) for case in cases]
+    return [(case, text) for case, text in found if text]
+
+
+def smallest_first(faults):
+    return sorted(faults, key=lambda fault: len(fault[0].sheet))
 
 
 def compare(cases):
     """Asks the Rust about the cases; gives what is wrong as (case, text), smallest sheet first."""
     powers = powers_agree()
     ask_rust(cases)
-    faults = [(case, fault_of(case, powers)) for case in cases]
-    faults = [(case, text) for case, text in faults if text]
-    return sorted(faults, key=lambda fault: len(fault[0].sheet))
+    return smallest_first(faults(cases, lambda case: fault_of(case, powers)))
 
 
 def describe(fault):

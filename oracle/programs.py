@@ -1,4 +1,4 @@
-"""Builds and runs the two oracle programs for the scripts that compare with them.
+"""Builds and runs the two oracle programs, and runs the proved ones, for the scripts that compare them.
 
 A program that cannot be built raises Broken and says what is missing; one that crashes or does not
 finish raises it and names the sheet.
@@ -34,15 +34,27 @@ def build():
     return done.stdout.strip().partition(" with ")[2]
 
 
-def run(name, mode, text, seconds):
-    """What a program prints, and what went wrong, if anything did."""
-    command = [ROOT / "target" / "oracle" / name, mode]
+def started(command, text, seconds):
+    """What a command writes and what it says of errors, and what went wrong, if anything did."""
     try:
         done = subprocess.run(command, input=text, capture_output=True, timeout=seconds)
     except subprocess.TimeoutExpired as late:
-        return (late.stdout or b"").decode("ascii"), f"did not finish in {seconds} s"
+        return late.stdout or b"", b"", f"did not finish in {seconds} s"
     how = "" if done.returncode == 0 else f"ended with status {done.returncode}"
-    return done.stdout.decode("ascii"), how
+    return done.stdout, done.stderr, how
+
+
+def run(name, mode, text, seconds):
+    """What an oracle program prints, and what went wrong, if anything did."""
+    printed, _, trouble = started([ROOT / "target" / "oracle" / name, mode], text, seconds)
+    return printed.decode("ascii"), trouble
+
+
+def proved(name, requests, seconds):
+    """What a proved program answers, and what went wrong, if anything did."""
+    answers, errors, trouble = started([ROOT / "tools" / "run", name], requests, seconds)
+    said = errors.decode(errors="replace").strip()
+    return answers, f"{trouble}: {said}" if trouble and said else trouble
 
 
 def batch(name, sheets, seconds=120):

@@ -11,7 +11,6 @@ what the Rust answers to them.
 
 import re
 import struct
-import subprocess
 import sys
 from pathlib import Path
 
@@ -57,13 +56,10 @@ def expected(asking):
 
 def proved(records):
     """What the proved program answers."""
-    done = subprocess.run(
-        [ROOT / "tools" / "run", "ask_instrument"], input=records, capture_output=True, timeout=SECONDS
-    )
-    if done.returncode != 0:
-        said = done.stderr.decode(errors="replace").strip()
-        raise programs.Broken(f"ask_instrument ended with status {done.returncode}{said and ': ' + said}")
-    return done.stdout
+    answers, trouble = programs.proved("ask_instrument", records, SECONDS)
+    if trouble:
+        raise programs.Broken(f"ask_instrument {trouble}")
+    return answers
 
 
 # ---- differences

@@ -1,25 +1,11 @@
 // Numbers and floats on standard output: four bytes each, the lowest first. A float is written as its
 // bit pattern.
 
-ghost use Prim.Native.Nat.{_+_, _≤_};
+ghost use Prim.Native.Nat.{_≤_};
 ghost use lib.ListN.{length};
 use fields::float;
+use fields::word::put;
 use libc::STDOUT_FILENO;
-
-// The low byte of a number.
-fn low(w: u32) -> u8 {
-    (w % 256) as u8
-}
-
-// Puts a number's four bytes at place `at`.
-fn put(bytes: &mut [u8], at: usize, w: u32)
-    requires { ⌜ at + 4 ≤ length (now bytes) ⌝ }
-{
-    bytes[at] = low(w);
-    bytes[at + 1] = low(w / 0x100);
-    bytes[at + 2] = low(w / 0x1_0000);
-    bytes[at + 3] = low(w / 0x100_0000);
-}
 
 pub fn number(w: u32) {
     let mut bytes = [0u8; 4];

@@ -1,0 +1,15 @@
+-- `within` is the smaller of the two, so it counts within the buffer. Assumes nothing.
+use native.Mathlib.Omega.{arith}
+use borrow.Author.Needs.{needs}
+use Rattle.io.proofs.Counting.{counts}
+use Rattle.ask_reading.proofs.answer.within.Statement.{statement}
+use Rattle.ask_reading.proofs.answer.within.Tie as tie
+
+least-requires : tie.Need-least-requires
+least-requires c κs = search needs
+
+returns : tie.Need-returns
+returns c = counts _ _ (omega arith)
+
+pub within-spec : {M : Type 1} → statement M
+within-spec = tie.close (tie.spec least-requires returns)
