@@ -1,16 +1,13 @@
 // The reader of sheets (the Rust's `parser.rs`): what a source's bytes mean, or why they are refused.
 
 ghost use mathlib.Core.Path.{_≡_};
-ghost use mathlib.Core.List.{[], _∷_};
 ghost use Prim.Native.Nat.{ℕ, _≤_};
-ghost use lib.ListN.{length, take};
+ghost use lib.ListN.{length};
 ghost use Rattle.text.specs.Lines.{linesOf};
-ghost use Rattle.instrument.specs.Lines.{releaseOf};
 ghost use Rattle.sheet.specs.Refusals.{_>>=_ as _then_};
-ghost use Rattle.layout.specs.Layout.{linesFrom};
 ghost use Rattle.parser.specs.Columns.{nothingSofar};
 ghost use Rattle.meaning.specs.Layout.{laidOut, readingOf};
-ghost use Rattle.meaning.specs.Sheets.{plain, nothingRead, linesRead, ended, allBelow128};
+ghost use Rattle.meaning.specs.Sheets.{nothingRead, linesRead, ended, allBelow128};
 use crate::ending::finished;
 use crate::ending::refused_reading;
 use crate::header::default_instrument;
@@ -40,7 +37,46 @@ fn nothing_sofar() -> Sofar
     }
 }
 
-// The lines of a source, with tables that hold the default instrument, and columns for all parts that the capacities allow.
+// The lines of a source, read into tables and columns that have room for all that the capacities allow.
+fn read_into(
+    source: &[u8],
+    macros: &mut [usize],
+    bodies: &mut [usize],
+    names: &mut [usize],
+    sizes: &mut [usize],
+    numbers: &mut [f32],
+    shape: &mut [usize],
+    releases: &mut [f32],
+    places: &mut [usize],
+    floats: &mut [f32],
+    bytes: &mut [u8],
+    loops: &mut [usize],
+    rate: u32,
+) -> Reading
+    requires { ⌜ (length (now source) ≤ 32768) × ((length (now macros) ≡ 128) × ((length (now bodies) ≡ 128) × ((length (now names) ≡ 64) × ((length (now sizes) ≡ 32) × ((length (now numbers) ≡ 6144) × ((length (now shape) ≡ 2048) × ((length (now releases) ≡ 32) × ((length (now places) ≡ 32) × ((length (now floats) ≡ 98304) × ((length (now bytes) ≡ 32768) × (length (now loops) ≡ 256))))))))))) ⌝ }
+    ensures { λ r. ⌜ r ≡ laidOut (linesRead rate 0 1 (linesOf (now (source .entry))) nothingRead then (λ x. ended rate x)) ⌝ }
+{
+    default_instrument(sizes, numbers, shape, releases);
+    let q = walk(
+        source,
+        macros,
+        bodies,
+        names,
+        sizes,
+        numbers,
+        shape,
+        releases,
+        places,
+        floats,
+        bytes,
+        loops,
+        nothing_sofar(),
+        rate,
+    );
+    finished(floats, bytes, numbers, shape, sizes, releases, q, rate)
+}
+
+// The same, with columns for all parts.
 fn read_parts(
     source: &[u8],
     macros: &mut [usize],
@@ -52,14 +88,14 @@ fn read_parts(
     releases: &mut [f32],
     rate: u32,
 ) -> Reading
-    requires { ⌜ (length (now source) ≤ 32768) × ((length (now macros) ≡ 128) × ((length (now bodies) ≡ 128) × ((length (now names) ≡ 64) × ((length (now sizes) ≡ 32) × ((length (now numbers) ≡ 6144) × ((length (now shape) ≡ 2048) × ((length (now releases) ≡ 32) × ((linesFrom (now sizes) (now numbers) (now shape) 0 1 ≡ plain ∷ []) × (take 1 (now releases) ≡ releaseOf plain ∷ []))))))))) ⌝ }
+    requires { ⌜ (length (now source) ≤ 32768) × ((length (now macros) ≡ 128) × ((length (now bodies) ≡ 128) × ((length (now names) ≡ 64) × ((length (now sizes) ≡ 32) × ((length (now numbers) ≡ 6144) × ((length (now shape) ≡ 2048) × (length (now releases) ≡ 32))))))) ⌝ }
     ensures { λ r. ⌜ r ≡ laidOut (linesRead rate 0 1 (linesOf (now (source .entry))) nothingRead then (λ x. ended rate x)) ⌝ }
 {
     let mut places = [0usize; 32];
     let mut floats = [0.0f32; 98304];
     let mut bytes = [0u8; 32768];
     let mut loops = [0usize; 256];
-    let q = walk(
+    read_into(
         source,
         macros,
         bodies,
@@ -72,13 +108,11 @@ fn read_parts(
         &mut floats,
         &mut bytes,
         &mut loops,
-        nothing_sofar(),
         rate,
-    );
-    finished(&floats, &bytes, numbers, shape, sizes, releases, q, rate)
+    )
 }
 
-// The lines of a source, with tables for all macros and instruments that the capacities allow.
+// The same, with tables for all macros and instruments too.
 fn read_lines(source: &[u8], rate: u32) -> Reading
     requires { ⌜ length (now source) ≤ 32768 ⌝ }
     ensures { λ r. ⌜ r ≡ laidOut (linesRead rate 0 1 (linesOf (now (source .entry))) nothingRead then (λ x. ended rate x)) ⌝ }
@@ -90,7 +124,6 @@ fn read_lines(source: &[u8], rate: u32) -> Reading
     let mut numbers = [0.0f32; 6144];
     let mut shape = [0usize; 2048];
     let mut releases = [0.0f32; 32];
-    default_instrument(&mut sizes, &mut numbers, &mut shape, &mut releases);
     read_parts(
         source,
         &mut macros,
