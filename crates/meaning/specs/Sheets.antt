@@ -2,7 +2,7 @@
 -- the first refusal ends the reading; at the end 25, 26, 27." Assumes nothing.
 use mathlib.Core.Bool.{Bool, true, false, _&&_}
 use mathlib.Core.List.{List, [], _∷_, _++_, map}
-use mathlib.Core.Option.{Option, none, some}
+use mathlib.Core.Option.{Option, none}
 use Prim.Native.Nat.{ℕ, zero, suc, _+_, max}
 use lib.Dec.{leb, ltb, eqb}
 use lib.ListN.{length}
@@ -12,7 +12,7 @@ use Rattle.text.specs.Characters.{rowOf}
 use Rattle.text.specs.Lines.{linesOf}
 use Rattle.text.specs.Tokens.{Named, namedOf}
 use Rattle.instrument.specs.Lines.{Line, releaseOf}
-use Rattle.sheet.specs.Capacities.{sourceMost, partsMost, sheetMost}
+use Rattle.sheet.specs.Capacities.{sourceMost, sheetMost}
 use Rattle.sheet.specs.Refusals.{Outcome, going, _>>=_, _>>_, refuse_on_unless_, refuse_on_if_}
 use Rattle.environment.specs.declared.environment.Environment.{Environment}
 use Rattle.environment.specs.Environment.{atTheStart}

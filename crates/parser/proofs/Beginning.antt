@@ -2,11 +2,11 @@
 use mathlib.Core.Path.{_≡_, refl, sym, ap, subst, _∙_}
 use mathlib.Core.List.{List, [], _∷_, map}
 use mathlib.Core.Option.{none}
-use Prim.Native.Nat.{ℕ, zero, suc, _+_, _*_, _<_, _≤_}
+use Prim.Native.Nat.{ℕ, zero, suc, _+_, _≤_}
 use native.Mathlib.Omega.{arith}
 use lib.ListN.{length, take, set, getD}
 use lib.Seq.{getD-set-same}
-use lib.Ieee.{Float, binary32, round, add, sub, mul, div, lt, ofBits, ofInt}
+use lib.Ieee.{Float, round, add, sub, mul, div, lt, ofBits, ofInt}
 use Rattle.text.specs.Quoted.{bytes}
 use Rattle.text.specs.Lines.{linesOf}
 use Rattle.instrument.specs.Lines.{Line, releaseOf}
@@ -23,7 +23,7 @@ use Rattle.layout.specs.Layout.{linesAt, linesFrom, notesFrom}
 use Rattle.layout.proofs.Regions.{region-length}
 use Rattle.parser.specs.declared.sofar.Sofar.{Sofar}
 use Rattle.meaning.specs.Sheets.{plain, nothingRead}
-use Rattle.parser.specs.Columns.{Tables, tablesOf, partsFrom, readIn, Fits, Tabled, Blocked, nothingSofar}
+use Rattle.parser.specs.Columns.{tablesOf, partsFrom, readIn, Fits, Tabled, Blocked, nothingSofar}
 use Rattle.parser.proofs.Headers.{block-going, block-refused}
 use Rattle.parser.proofs.ReadLines.{held-whole}
 use Rattle.tables.proofs.Entries.{same-given}

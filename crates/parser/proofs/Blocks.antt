@@ -1,20 +1,17 @@
 -- The operator lines below a header, read into the regions of one instrument: what the reader of operator lines promises of two lent parts, told of the
 -- columns. Assumes nothing.
-use mathlib.Core.Path.{_≡_, sym, ap, ap₂, _∙_}
+use mathlib.Core.Path.{_≡_, ap, ap₂, _∙_}
 use mathlib.Core.Option.{none}
 use mathlib.Core.List.{List}
-use Prim.Native.Nat.{ℕ, _*_, _+_, _≤_, _<_}
+use Prim.Native.Nat.{ℕ, _≤_, _<_}
 use native.Mathlib.Omega.{arith}
 use lib.ListN.{length, drop}
 use lib.Ieee.{Float}
 use borrow.Author.Tests.{le-leb}
 use Rattle.text.specs.Lines.{linesOf}
-use Rattle.sheet.specs.Refusals.{Outcome}
-use Rattle.instrument.specs.Lines.{Line}
 use Rattle.operators.specs.declared.block.Block.{Block}
 use Rattle.operators.specs.OperatorLines.{operatorLines, operatorsRead}
 use Rattle.operators.specs.Blocks.{blockRead, blockOutcome}
-use Rattle.layout.specs.Regions.{region}
 use Rattle.layout.proofs.Regions.{lent, back, lent-region, region-length, back-here, back-beside}
 use Rattle.parser.specs.Columns.{Blocked}
 

@@ -1,13 +1,13 @@
 -- A directive's line: "A directive changes the starting environment and every existing part's." Assumes nothing.
 use mathlib.Core.Path.{_≡_, refl, sym, ap, ap₂, subst, _∙_}
-use mathlib.Core.List.{List, [], _∷_}
-use Prim.Native.Nat.{ℕ, zero, suc, _+_, _≤_, _<_}
+use mathlib.Core.List.{List, _∷_}
+use Prim.Native.Nat.{ℕ, zero, suc, _+_, _<_}
 use native.Mathlib.Omega.{arith}
 use lib.ListN.{length, drop, getD}
 use lib.Ieee.{Float}
 use Rattle.text.specs.Lines.{lineOf}
 use Rattle.text.specs.Names.{between}
-use Rattle.sheet.specs.Refusals.{Outcome, going, refused, _>>=_}
+use Rattle.sheet.specs.Refusals.{going}
 use Rattle.sheet.proofs.Outcomes.{Numbered, then-going, then-refused}
 use Rattle.environment.specs.declared.environment.Environment.{Environment}
 use Rattle.environment.specs.Environment.{atTheStart}

@@ -1,12 +1,11 @@
 -- How a line ends: with a refusal, or with a reading that goes on behind it. Every step of the walk over lines is one of these two laws. Assumes nothing.
 use mathlib.Core.Path.{_≡_, refl, sym, ap, subst, _∙_}
-use mathlib.Core.List.{List, [], _∷_}
+use mathlib.Core.List.{List}
 use Prim.Native.Nat.{ℕ, zero, suc, _+_, _≤_}
 use native.Mathlib.Omega.{arith}
-use lib.ListN.{length, drop}
+use lib.ListN.{drop}
 use lib.Ieee.{Float}
-use Rattle.text.specs.Lines.{linesOf, lineOf}
-use Rattle.text.specs.Names.{between}
+use Rattle.text.specs.Lines.{linesOf}
 use Rattle.text.proofs.LinePlaces.{Lined, line-placed}
 use Rattle.sheet.specs.Refusals.{Outcome, going, refused}
 use Rattle.parser.specs.declared.sofar.Sofar.{Sofar}

@@ -14,7 +14,7 @@ use borrow.Author.Tests.{le-leb, eq-eqb, ltb-true}
 use Rattle.text.specs.Lines.{linesOf, lineOf}
 use Rattle.instrument.specs.Lines.{Line, releaseOf}
 use Rattle.sheet.specs.Capacities.{instrumentsMost}
-use Rattle.sheet.specs.Refusals.{Outcome, going, refused, _>>=_}
+use Rattle.sheet.specs.Refusals.{Outcome, going, refused}
 use Rattle.sheet.proofs.Holds.{Holds, holds-going, holds-of, holds-unless}
 use Rattle.sheet.proofs.Outcomes.{then-going, then-refused}
 use Rattle.operators.specs.declared.block.Block.{Block}

@@ -2,7 +2,7 @@
 use mathlib.Core.Path.{_≡_, refl, sym, ap, subst, _∙_}
 use mathlib.Core.List.{List, [], _∷_}
 use Prim.Native.Char.{Char}
-use Prim.Native.Nat.{ℕ, zero, suc, _+_, _-_, _≤_, _<_}
+use Prim.Native.Nat.{ℕ, suc, _+_, _-_, _≤_, _<_}
 use native.Mathlib.Omega.{arith}
 use lib.ListN.{length, take, drop, getD}
 use lib.Seq.{drop-cons}
@@ -12,12 +12,11 @@ use Rattle.text.specs.Lines.{linesOf, lineOf}
 use Rattle.text.specs.Tokens.{namedOf}
 use Rattle.text.proofs.LinePlaces.{Lined}
 use Rattle.text.proofs.Rows.{row-none}
-use Rattle.sheet.specs.Refusals.{Outcome, going}
 use Rattle.operators.specs.OperatorLines.{operatorLines}
 use Rattle.parser.specs.declared.sofar.Sofar.{Sofar}
 use Rattle.meaning.specs.Sheets.{Read, Kind, skipped, headerLine, directiveLine, macroLine, partLine, headerRead, directiveRead, macroRead, partRead, kindOf, takenBy, lineRead}
 use Rattle.parser.specs.Columns.{Tables, readIn, Fits, Tabled, Begins, Goes, passedTo}
-use Rattle.parser.proofs.Going.{lined, goes-on}
+use Rattle.parser.proofs.Going.{goes-on}
 
 -- ---- which kind
 

@@ -1,17 +1,14 @@
 -- A macro's line: "Macro line: 5, 4, 21.", and one macro more in the tables. Assumes nothing.
 use mathlib.Core.Path.{_≡_, refl, sym, ap, ap₂, subst, _∙_}
-use mathlib.Core.Bool.{true}
-use mathlib.Core.List.{List, [], _∷_, _++_}
-use Prim.Native.Nat.{ℕ, _+_, _*_, _≤_, _<_}
+use mathlib.Core.List.{List}
+use Prim.Native.Nat.{ℕ, _+_, _*_, _<_}
 use native.Mathlib.Omega.{arith}
-use lib.Dec.{leb, ltb, eqb}
 use lib.ListN.{length, take, drop}
 use lib.Ieee.{Float}
 use borrow.Author.Tests.{le-leb, eq-eqb, ltb-true}
 use Rattle.text.specs.Lines.{lineOf}
-use Rattle.text.specs.Names.{between}
 use Rattle.sheet.specs.Capacities.{macrosMost}
-use Rattle.sheet.specs.Refusals.{Outcome, going, refused, _>>=_}
+use Rattle.sheet.specs.Refusals.{Outcome, going, refused}
 use Rattle.sheet.proofs.Holds.{Holds, holds-going, holds-of, holds-unless, holds-after}
 use Rattle.sheet.proofs.Outcomes.{then-going, then-refused}
 use Rattle.part.specs.Body.{Macro}
@@ -21,7 +18,7 @@ use Rattle.tables.proofs.MacrosGrown.{macros-grown}
 use Rattle.tables.proofs.Taken.{macros-many}
 use Rattle.parser.specs.declared.sofar.Sofar.{Sofar}
 use Rattle.meaning.specs.Sheets.{Read, readOf, macroRead}
-use Rattle.parser.specs.Columns.{Tables, tablesOf, readIn, Fits, Tabled, Begins, Goes, refusedAt, passedTo}
+use Rattle.parser.specs.Columns.{tablesOf, readIn, Fits, Tabled, Begins, Goes, refusedAt, passedTo}
 use Rattle.parser.proofs.Numbers.{At, macro-at, at-refused, at-number, number-of}
 use Rattle.parser.proofs.Going.{lined, goes-refused, goes-on}
 

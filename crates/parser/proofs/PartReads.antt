@@ -8,15 +8,15 @@ use lib.Ieee.{Float}
 use Rattle.text.specs.Lines.{lineOf}
 use Rattle.text.specs.Names.{between, namesIn}
 use Rattle.text.specs.Tokens.{namedOf}
-use Rattle.instrument.specs.Lines.{Line, releaseOf}
-use Rattle.sheet.specs.Refusals.{Outcome, going, refused, _>>=_}
+use Rattle.instrument.specs.Lines.{releaseOf}
+use Rattle.sheet.specs.Refusals.{Outcome, going, refused}
 use Rattle.sheet.proofs.Outcomes.{then-going, then-refused}
 use Rattle.environment.specs.declared.environment.Environment.{Environment}
-use Rattle.part.specs.Body.{Book, Macro}
+use Rattle.part.specs.Body.{Book}
 use Rattle.part.specs.Columns.{macrosIn, bookIn}
 use Rattle.layout.specs.Layout.{linesFrom}
 use Rattle.parser.specs.declared.sofar.Sofar.{Sofar}
-use Rattle.meaning.specs.Parts.{NamedPart, Played, linePlayed}
+use Rattle.meaning.specs.Parts.{Played, linePlayed}
 use Rattle.meaning.specs.Sheets.{Read, readOf, bookOf, partRead}
 use Rattle.parser.specs.Columns.{Tables, tablesOf, partsFrom, playedIn, playedOutcome, readIn, Fits, Tabled, Begins, Goes, Came, passedTo}
 use Rattle.parser.proofs.Going.{lined, goes-ended, goes-on}

@@ -1,19 +1,18 @@
 -- Operator lines that are accepted: there is one operator for each line, its feedback is within the capacity, and so an instrument's columns hold exactly
 -- what was read. Assumes nothing.
-use mathlib.Core.Path.{_≡_, refl, sym, ap, ap₂, subst, _∙_}
+use mathlib.Core.Path.{_≡_, refl, ap, ap₂, _∙_}
 use mathlib.Core.List.{List, [], _∷_, map}
-use mathlib.Core.Option.{Option, none, some}
+use mathlib.Core.Option.{Option, some}
 use Prim.Native.Nat.{ℕ, zero, suc, _+_, _/_, _≤_, min}
 use native.Mathlib.Omega.{arith}
-use lib.ListN.{length, drop, take}
+use lib.ListN.{length, drop}
 use lib.Ieee.{Float}
 use borrow.Author.Tests.{leb-true}
 use Rattle.text.specs.Tokens.{tokensOf}
 use Rattle.instrument.specs.Lines.{Line}
 use Rattle.sheet.specs.Capacities.{feedbackMost}
-use Rattle.sheet.specs.Refusals.{Outcome, going, refused}
-use Rattle.sheet.proofs.Holds.{Holds, holds-going, holds-of, holds-unless, holds-then, holds-after}
-use Rattle.operators.specs.OperatorLines.{indentOf, indented, numbersRead, feedbackRead, operatorOf, operatorRead, operatorsRead}
+use Rattle.sheet.proofs.Holds.{Holds, holds-going, holds-unless, holds-then, holds-after}
+use Rattle.operators.specs.OperatorLines.{indentOf, feedbackRead, operatorOf, operatorRead, operatorsRead}
 use Rattle.operators.specs.Blocks.{linesIn}
 use Rattle.operators.proofs.Indents.{holds-indented}
 use Rattle.commands.specs.Commands.{clipped, linesHeld}

@@ -8,8 +8,8 @@ use lib.ListN.{length, drop, drop-of-length-le}
 use lib.Ieee.{Float}
 use Rattle.text.specs.declared.lines.Line.{Line}
 use Rattle.text.specs.Lines.{linesOf, lineOf, lineAt}
-use Rattle.text.proofs.LinePlaces.{Lined, line-placed}
-use Rattle.sheet.specs.Refusals.{Outcome, going, refused, _>>=_}
+use Rattle.text.proofs.LinePlaces.{line-placed}
+use Rattle.sheet.specs.Refusals.{Outcome, _>>=_}
 use Rattle.sheet.proofs.Outcomes.{then-going, then-refused}
 use Rattle.parser.specs.declared.sofar.Sofar.{Sofar}
 use Rattle.meaning.specs.Sheets.{Read, kindOf, takenBy, lineRead, linesRead}

@@ -7,7 +7,6 @@ use mathlib.Core.Option.{none}
 use Prim.Native.Nat.{ℕ, zero, suc, _+_, _*_, _≤_, _<_}
 use lib.ListN.{length, take, drop, getD, replicate}
 use lib.Ieee.{Float}
-use Rattle.text.specs.declared.lines.Line.{Line}
 use Rattle.text.specs.Lines.{linesOf, lineAt}
 use Rattle.text.specs.Names.{between, namesIn}
 use Rattle.instrument.specs.Lines.{releaseOf}

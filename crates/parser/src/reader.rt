@@ -1,7 +1,7 @@
 // The reader of sheets (the Rust's `parser.rs`): what a source's bytes mean, or why they are refused.
 
 ghost use mathlib.Core.Path.{_≡_};
-ghost use Prim.Native.Nat.{ℕ, _≤_};
+ghost use Prim.Native.Nat.{_≤_};
 ghost use lib.ListN.{length};
 ghost use Rattle.text.specs.Lines.{linesOf};
 ghost use Rattle.sheet.specs.Refusals.{_>>=_ as _then_};
