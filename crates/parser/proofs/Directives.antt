@@ -19,7 +19,7 @@ use Rattle.meaning.specs.Parts.{NamedPart, everyPart}
 use Rattle.meaning.specs.Sheets.{Read, readOf, directiveRead}
 use Rattle.parser.specs.Columns.{partAt, partsFrom, Tables, readIn, Fits, Tabled, Begins, Goes, refusedAt, passedTo, withEnvs}
 use Rattle.parser.proofs.Numbers.{directive-numbered, directive-going, directive-refused, applied-octave}
-use Rattle.parser.proofs.Going.{lined, goes-refused, goes-on}
+use Rattle.parser.proofs.Going.{lined, goes-refused, goes-on, tabled-as}
 
 module _ (s places : List ℕ) (r : Sofar) (fs : List Float) (is ls : List ℕ) (f : Environment → Environment) (start : Environment) (es : List Environment) (line at : ℕ) where
   -- the reading behind the line
@@ -85,18 +85,7 @@ module _ (s places : List ℕ) (r : Sofar) (fs : List Float) (is ls : List ℕ) 
             bytes-length = w .bytes-length;
             loops-length = w .loops-length;
           })
-          (record {
-            macros-few = g .macros-few;
-            instruments-few = g .instruments-few;
-            macros-length = g .macros-length;
-            bodies-length = g .bodies-length;
-            names-length = g .names-length;
-            sizes-length = g .sizes-length;
-            numbers-length = g .numbers-length;
-            shape-length = g .shape-length;
-            releases-length = g .releases-length;
-            releases = g .releases;
-          })
+          (tabled-as _ _ _ refl refl g)
           (then-going (applied d) (directiveOf (r .line) text) _ (says ∙ directive-going d (r .line) n (number (r .line)) z numbered)
           ∙ ap
           (λ (ps : List NamedPart). going (readOf (applied d (r .start)) ps (before .macros) (before .names) (before .instruments) (before .steps)))

@@ -1,16 +1,18 @@
 -- How a line ends: with a refusal, or with a reading that goes on behind it. Every step of the walk over lines is one of these two laws. Assumes nothing.
 use mathlib.Core.Path.{_≡_, refl, sym, ap, subst, _∙_}
-use mathlib.Core.List.{List}
+use mathlib.Core.List.{List, map}
 use Prim.Native.Nat.{ℕ, zero, suc, _+_, _≤_}
 use native.Mathlib.Omega.{arith}
-use lib.ListN.{drop}
+use lib.ListN.{take, drop}
 use lib.Ieee.{Float}
 use Rattle.text.specs.Lines.{linesOf}
+use Rattle.instrument.specs.Lines.{releaseOf}
 use Rattle.text.proofs.LinePlaces.{Lined, line-placed}
 use Rattle.sheet.specs.Refusals.{Outcome, going, refused}
+use Rattle.layout.specs.Layout.{linesFrom}
 use Rattle.parser.specs.declared.sofar.Sofar.{Sofar}
 use Rattle.meaning.specs.Sheets.{Read}
-use Rattle.parser.specs.Columns.{Tables, readIn, readOutcome, Fits, Tabled, Begins, Goes, refusedAt}
+use Rattle.parser.specs.Columns.{Tables, readIn, readOutcome, Fits, Tabled, Begins, Goes, refusedAt, passedTo}
 
 -- where the line stands
 pub lined : (s : List ℕ) (r : Sofar) (end next : ℕ) → Begins s r end next → Lined s (r .at) end next
@@ -63,6 +65,43 @@ module _ (s places : List ℕ) (r : Sofar) (fs : List Float) (is ls : List ℕ) 
 pub goes-as : (o : Outcome Read) (n : ℕ) (s places : List ℕ) (r q p : Sofar) (fs : List Float) (is ls : List ℕ) (t : Tables) → q ≡ p
     → Goes o n s places r p fs is ls t → Goes o n s places r q fs is ls t
 goes-as o n s places r q p fs is ls t e g = subst (λ (x : Sofar). Goes o n s places r x fs is ls t) (sym e) g
+
+-- the parts are those from before, wherever the reading has come to
+pub fits-passed : (places : List ℕ) (r : Sofar) (fs : List Float) (is ls : List ℕ) (macros instruments line at : ℕ) → Fits places r fs is ls
+    → Fits places (passedTo r macros instruments line at) fs is ls
+fits-passed places r fs is ls macros instruments line at w =
+    record {
+      few = w .few;
+      start = w .start;
+      octaves = w .octaves;
+      counts = w .counts;
+      depths = w .depths;
+      all = w .all;
+      notes = w .notes;
+      envs-length = w .envs-length;
+      counts-length = w .counts-length;
+      depths-length = w .depths-length;
+      places-length = w .places-length;
+      floats-length = w .floats-length;
+      bytes-length = w .bytes-length;
+      loops-length = w .loops-length;
+    }
+
+-- and so are the tables
+pub tabled-as : (r q : Sofar) (t : Tables) → q .macros ≡ r .macros → q .instruments ≡ r .instruments → Tabled r t → Tabled q t
+tabled-as r q t m i g =
+    record {
+      macros-few = omega (arith, m, g .macros-few);
+      instruments-few = omega (arith, i, g .instruments-few);
+      macros-length = g .macros-length;
+      bodies-length = g .bodies-length;
+      names-length = g .names-length;
+      sizes-length = g .sizes-length;
+      numbers-length = g .numbers-length;
+      shape-length = g .shape-length;
+      releases-length = g .releases-length;
+      releases = subst (λ (n : ℕ). take (n + 1) (t .releases) ≡ map releaseOf (linesFrom (t .sizes) (t .numbers) (t .shape) 0 (n + 1))) (sym i) (g .releases);
+    }
 
 -- the numbers of lines stay small
 pub line-small : (s : List ℕ) (r : Sofar) (end next : ℕ) → Begins s r end next → r .line ≤ 2000000

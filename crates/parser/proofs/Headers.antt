@@ -32,7 +32,7 @@ use Rattle.parser.specs.declared.sofar.Sofar.{Sofar}
 use Rattle.meaning.specs.Sheets.{Read, readOf, headerRead}
 use Rattle.parser.specs.Columns.{Tables, tablesOf, readIn, Fits, Tabled, Begins, Goes, Blocked, refusedAt, passedTo}
 use Rattle.parser.proofs.Numbers.{At, header-at, at-refused, at-number, number-of}
-use Rattle.parser.proofs.Going.{lined, read-going, goes-refused}
+use Rattle.parser.proofs.Going.{lined, read-going, goes-refused, fits-passed}
 use Rattle.parser.proofs.ReadLines.{OfLines, all-of-lines, lines-length, held-whole}
 
 -- ---- instruments in their regions
@@ -238,22 +238,7 @@ module _ (s places : List ℕ) (r : Sofar) (fs : List Float) (is ls ms bs ns zs 
 
           now-fits : Fits places after fs is ls
           now-fits =
-              record {
-                few = w .few;
-                start = w .start;
-                octaves = w .octaves;
-                counts = w .counts;
-                depths = w .depths;
-                all = w .all;
-                notes = w .notes;
-                envs-length = w .envs-length;
-                counts-length = w .counts-length;
-                depths-length = w .depths-length;
-                places-length = w .places-length;
-                floats-length = w .floats-length;
-                bytes-length = w .bytes-length;
-                loops-length = w .loops-length;
-              }
+              fits-passed _ _ _ _ _ _ _ _ _ w
 
           now-tabled : Tabled after tables
           now-tabled =

@@ -16,7 +16,7 @@ use Rattle.operators.specs.OperatorLines.{operatorLines}
 use Rattle.parser.specs.declared.sofar.Sofar.{Sofar}
 use Rattle.meaning.specs.Sheets.{Read, Kind, skipped, headerLine, directiveLine, macroLine, partLine, headerRead, directiveRead, macroRead, partRead, kindOf, takenBy, lineRead}
 use Rattle.parser.specs.Columns.{Tables, readIn, Fits, Tabled, Begins, Goes, passedTo}
-use Rattle.parser.proofs.Going.{goes-on}
+use Rattle.parser.proofs.Going.{goes-on, fits-passed, tabled-as}
 
 -- ---- which kind
 
@@ -108,32 +108,6 @@ module _ (rate : ℕ) (s places : List ℕ) (r : Sofar) (fs : List Float) (is ls
       subst (λ (x : Sofar). Stepped rate s places r fs is ls t next places x fs is ls t (kindOf (lineOf (drop (r .at) s)))) (sym e)
       (by-kind rate s places r fs is ls t next places after fs is ls t skipped k
       (goes-on s places r fs is ls t after end next _ b (b .goes) refl refl
-      (record {
-        few = w .few;
-        start = w .start;
-        octaves = w .octaves;
-        counts = w .counts;
-        depths = w .depths;
-        all = w .all;
-        notes = w .notes;
-        envs-length = w .envs-length;
-        counts-length = w .counts-length;
-        depths-length = w .depths-length;
-        places-length = w .places-length;
-        floats-length = w .floats-length;
-        bytes-length = w .bytes-length;
-        loops-length = w .loops-length;
-      })
-      (record {
-        macros-few = g .macros-few;
-        instruments-few = g .instruments-few;
-        macros-length = g .macros-length;
-        bodies-length = g .bodies-length;
-        names-length = g .names-length;
-        sizes-length = g .sizes-length;
-        numbers-length = g .numbers-length;
-        shape-length = g .shape-length;
-        releases-length = g .releases-length;
-        releases = g .releases;
-      })
+      (fits-passed _ _ _ _ _ _ _ _ _ w)
+      (tabled-as _ _ _ refl refl g)
       refl))

@@ -20,7 +20,7 @@ use Rattle.parser.specs.declared.sofar.Sofar.{Sofar}
 use Rattle.meaning.specs.Sheets.{Read, readOf, macroRead}
 use Rattle.parser.specs.Columns.{tablesOf, readIn, Fits, Tabled, Begins, Goes, refusedAt, passedTo}
 use Rattle.parser.proofs.Numbers.{At, macro-at, at-refused, at-number, number-of}
-use Rattle.parser.proofs.Going.{lined, goes-refused, goes-on}
+use Rattle.parser.proofs.Going.{lined, goes-refused, goes-on, fits-passed}
 
 -- the line is one of fewer than 64
 few-macros : (line : ℕ) (l : List ℕ) (ms : List Macro) → Holds (λ (m : Macro). length ms < macrosMost) (macroOf line l ms)
@@ -74,22 +74,7 @@ module _ (s places : List ℕ) (r : Sofar) (fs : List Float) (is ls ms bs ns zs 
         ap₂ (λ (x y : List ℕ). macrosIn s (take (2 * (r .macros + 1)) x) (take (2 * (r .macros + 1)) y)) em eb
         ∙ macros-grown line s (r .at) end (r .macros) ms bs m (says ∙ q) in
         goes-on s places r fs is ls _ after end next _ b (b .goes) refl refl
-        (record {
-          few = w .few;
-          start = w .start;
-          octaves = w .octaves;
-          counts = w .counts;
-          depths = w .depths;
-          all = w .all;
-          notes = w .notes;
-          envs-length = w .envs-length;
-          counts-length = w .counts-length;
-          depths-length = w .depths-length;
-          places-length = w .places-length;
-          floats-length = w .floats-length;
-          bytes-length = w .bytes-length;
-          loops-length = w .loops-length;
-        })
+        (fits-passed _ _ _ _ _ _ _ _ _ w)
         (record {
           macros-few = omega (arith, few);
           instruments-few = g .instruments-few;

@@ -1,6 +1,6 @@
 -- A part's line as a step of the walk: what it makes of the parts, told of the whole reading. Assumes nothing.
-use mathlib.Core.Path.{_≡_, refl, sym, ap, ap₂, subst, _∙_}
-use mathlib.Core.List.{List, map}
+use mathlib.Core.Path.{_≡_, refl, sym, ap, ap₂, _∙_}
+use mathlib.Core.List.{List}
 use Prim.Native.Nat.{ℕ, zero, suc, _+_, _*_, _≤_}
 use native.Mathlib.Omega.{arith}
 use lib.ListN.{length, take, drop, length-take}
@@ -8,7 +8,6 @@ use lib.Ieee.{Float}
 use Rattle.text.specs.Lines.{lineOf}
 use Rattle.text.specs.Names.{between, namesIn}
 use Rattle.text.specs.Tokens.{namedOf}
-use Rattle.instrument.specs.Lines.{releaseOf}
 use Rattle.sheet.specs.Refusals.{Outcome, going, refused}
 use Rattle.sheet.proofs.Outcomes.{then-going, then-refused}
 use Rattle.environment.specs.declared.environment.Environment.{Environment}
@@ -19,7 +18,7 @@ use Rattle.parser.specs.declared.sofar.Sofar.{Sofar}
 use Rattle.meaning.specs.Parts.{Played, linePlayed}
 use Rattle.meaning.specs.Sheets.{Read, readOf, bookOf, partRead}
 use Rattle.parser.specs.Columns.{Tables, tablesOf, partsFrom, playedIn, playedOutcome, readIn, Fits, Tabled, Begins, Goes, Came, passedTo}
-use Rattle.parser.proofs.Going.{lined, goes-ended, goes-on}
+use Rattle.parser.proofs.Going.{lined, goes-ended, goes-on, fits-passed, tabled-as}
 
 module _ (s places : List ℕ) (q : Sofar) (fs : List Float) (is ls : List ℕ) where
   played-going : q .refusal ≡ 0 → playedOutcome s places q fs is ls ≡ going (playedIn s places q fs is ls)
@@ -37,22 +36,6 @@ module _ (s places : List ℕ) (q : Sofar) (fs : List Float) (is ls : List ℕ) 
 -- some of the first elements
 pub take-few : (n : ℕ) (xs : List Float) → n ≤ 32 → length (take n xs) ≤ 32
 take-few n xs h = omega (arith, h, length-take n xs)
-
--- the same tables with the counts of another reading
-tabled-as : (r q : Sofar) (t : Tables) → q .macros ≡ r .macros → q .instruments ≡ r .instruments → Tabled r t → Tabled q t
-tabled-as r q t m i g =
-    record {
-      macros-few = omega (arith, m, g .macros-few);
-      instruments-few = omega (arith, i, g .instruments-few);
-      macros-length = g .macros-length;
-      bodies-length = g .bodies-length;
-      names-length = g .names-length;
-      sizes-length = g .sizes-length;
-      numbers-length = g .numbers-length;
-      shape-length = g .shape-length;
-      releases-length = g .releases-length;
-      releases = subst (λ (n : ℕ). take (n + 1) (t .releases) ≡ map releaseOf (linesFrom (t .sizes) (t .numbers) (t .shape) 0 (n + 1))) (sym i) (g .releases);
-    }
 
 module _ (rate : ℕ) (s places : List ℕ) (r : Sofar) (fs : List Float) (is ls ms bs ns zs : List ℕ) (xs : List Float) (ss : List ℕ) (rs : List Float) (end next : ℕ) (b : Begins s r end next) (g : Tabled r (tablesOf ms bs ns zs xs ss rs)) where
   abbrev tables : Tables
@@ -94,22 +77,7 @@ module _ (rate : ℕ) (s places : List ℕ) (r : Sofar) (fs : List Float) (is ls
       now-fits : Fits places′ after fs′ is′ ls′
       now-fits =
           let w = c .fits z in
-          record {
-            few = w .few;
-            start = w .start;
-            octaves = w .octaves;
-            counts = w .counts;
-            depths = w .depths;
-            all = w .all;
-            notes = w .notes;
-            envs-length = w .envs-length;
-            counts-length = w .counts-length;
-            depths-length = w .depths-length;
-            places-length = w .places-length;
-            floats-length = w .floats-length;
-            bytes-length = w .bytes-length;
-            loops-length = w .loops-length;
-          }
+          fits-passed _ _ _ _ _ _ _ _ _ w
 
       -- what has been read beside the parts is as before
       reading : Environment → ℕ → ℕ → Read
