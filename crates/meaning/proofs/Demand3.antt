@@ -19,14 +19,15 @@ use Rattle.instrument.specs.Lines.{Line, accepted, commandsOf}
 use Rattle.instrument.specs.Tree.{sum, treeOf, stepped}
 use Rattle.instrument.proofs.CommandCount.{commands-few}
 use Rattle.instrument.proofs.Demand3.{demand3-instrument}
-use Rattle.sheet.specs.Capacities.{commandsMost}
-use Rattle.sheet.specs.Refusals.{going}
+use Rattle.sheet.specs.Capacities.{commandsMost, instrumentsMost}
+use Rattle.sheet.specs.Refusals.{Outcome, going}
 use Rattle.sheet.proofs.Holds.{Holds, holds-going, holds-then, holds-after}
 use Rattle.operators.specs.OperatorLines.{operatorLines, operatorsRead}
 use Rattle.operators.proofs.Indents.{AllFit, all-fit}
 use Rattle.meaning.proofs.Throughout.{KeptByLines, of-accepted}
 use Rattle.commands.specs.Commands.{noCommand, instrumentOf}
 use Rattle.sheet.specs.Padding.{padded}
+use Rattle.meaning.specs.Layout.{sheetOf, laidOut, readingOf}
 use Rattle.meaning.specs.Sheets.{Read, readOf, plain, headerRead, directiveRead, macroRead, partRead, nothingRead, sheetRead}
 
 -- ---- a fact of every instrument
@@ -113,6 +114,12 @@ trees-value ls g s f d t = demand3-instrument f d t (instrumentOf ls) ls (list-o
 pub demand3-sheet : (rate : ℕ) (source : List ℕ) (r : Read) → sheetRead rate source ≡ going r → Every TreesValue (r .instruments)
 demand3-sheet rate source r e =
     every-maps (AllFit none 0) TreesValue trees-value (r .instruments) (lines-fit rate source r e)
+
+-- the sheet that a source is read as has these instruments in its table, and then empty ones
+pub demand3-reading : (rate : ℕ) (source : List ℕ) (r : Read) → sheetRead rate source ≡ going r
+    → (readingOf rate source .sheet .table ≡ padded instrumentsMost (instrumentOf []) (map instrumentOf (r .instruments))) × Every TreesValue (r .instruments)
+unfolding readingOf laidOut sheetOf
+demand3-reading rate source r e = (ap (λ (o : Outcome Read). laidOut o .sheet .table) e, demand3-sheet rate source r e)
 
 -- ---- room
 
