@@ -17,8 +17,8 @@ use Rattle.part.specs.Body.{Book}
 use Rattle.tables.specs.Tables.{withEntry}
 use Rattle.parser.specs.declared.sofar.Sofar.{Sofar}
 use Rattle.meaning.specs.Parts.{NamedPart, notesOf, linePlayed}
-use Rattle.parser.specs.Columns.{partAt, partsFrom, playedIn, playedOutcome, Fits, Came}
-use Rattle.parser.specs.PartSteps.{refusedWith, withNew, calledAs, LineCame}
+use Rattle.parser.specs.Columns.{partAt, partsFrom, playedIn, playedOutcome, Fits, Came, refusedAt}
+use Rattle.parser.specs.PartSteps.{withNew, calledAs, LineCame}
 use Rattle.parser.proofs.NamedParts.{called-length, called-last, same-self, among-most, among-last, named-none, notes-last, fresh, lineOf, line-new, line-full}
 use Rattle.parser.proofs.PartPlaces.{element-set, parts-length, parts-last, parts-same, parts-called, notes-of}
 
@@ -148,7 +148,7 @@ module _ (s places : List ℕ) (r : Sofar) (fs : List Float) (is ls : List ℕ) 
 
 module _ (s places : List ℕ) (r : Sofar) (fs : List Float) (is ls : List ℕ) (g : Fits places r fs is ls) (name : List ℕ) (book : Book) (text : List ℕ) where
   pub came-full : partsMost ≤ r .parts → placeAmong name (calledAs (parts s places r fs is ls g name)) ≡ length (parts s places r fs is ls g name)
-      → Came (linePlayed book (r .start) (r .line) (some (record { name = name; body = text })) (playedIn s places r fs is ls)) s places r (refusedWith r 21 (r .line)) fs is ls
+      → Came (linePlayed book (r .start) (r .line) (some (record { name = name; body = text })) (playedIn s places r fs is ls)) s places r (refusedAt r 21 (r .line)) fs is ls
   unfolding playedIn playedOutcome
   came-full h absent =
       let ps = partsFrom s places r fs is ls 0 (r .parts) in

@@ -22,8 +22,8 @@ use Rattle.tables.specs.Tables.{withEntry}
 use Rattle.tables.proofs.MacroLines.{name-ends}
 use Rattle.parser.specs.declared.sofar.Sofar.{Sofar}
 use Rattle.meaning.specs.Parts.{linePlayed}
-use Rattle.parser.specs.Columns.{partsFrom, playedIn, Fits, Came}
-use Rattle.parser.specs.PartSteps.{refusedWith, withNew, WithPart, calledAs, LineCame}
+use Rattle.parser.specs.Columns.{partsFrom, playedIn, Fits, Came, refusedAt}
+use Rattle.parser.specs.PartSteps.{withNew, WithPart, calledAs, LineCame}
 use Rattle.parser.proofs.Playing.{played-going}
 use Rattle.parser.proofs.Adding.{place-is, place-new, fits-new, came-new, came-full}
 
@@ -103,10 +103,10 @@ module _ (book : Book) (s places : List ℕ) (from end : ℕ) (r : Sofar) (fs : 
             (subst (λ (i : ℕ). LineCame book text i (withNew r) q fs is ls gs js ms) (absent .0) h))
 
     -- no room for a new one
-    pub step-full : partsMost ≤ k → StepCame (namedOf l) places (refusedWith r 21 (r .line)) fs is ls
+    pub step-full : partsMost ≤ k → StepCame (namedOf l) places (refusedAt r 21 (r .line)) fs is ls
     step-full h =
         let past : r .parts ≤ k = omega (arith, h, g .few) in
-        named places (refusedWith r 21 (r .line)) fs is ls
+        named places (refusedAt r 21 (r .line)) fs is ls
         (came-full s places r fs is ls g name book text (omega (arith, h, absent past .0)) (absent past .1))
 
     -- the part is there, or there now

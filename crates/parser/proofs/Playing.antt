@@ -26,8 +26,8 @@ use Rattle.layout.specs.Layout.{notesAt, notesFrom}
 use Rattle.layout.proofs.Regions.{lent, back, lent-region, region-length, back-here, back-beside, back-length}
 use Rattle.parser.specs.declared.sofar.Sofar.{Sofar}
 use Rattle.meaning.specs.Parts.{NamedPart, Played, notesOf, withPartNamed, linePlayed}
-use Rattle.parser.specs.Columns.{partAt, partsFrom, playedIn, playedOutcome, Fits, Came}
-use Rattle.parser.specs.PartSteps.{stateOf, refusedWith, keptWith, storedAs, Beside, BodyCame, ReadyAt, bodyAt, calledAs, LineCame}
+use Rattle.parser.specs.Columns.{partAt, partsFrom, playedIn, playedOutcome, Fits, Came, refusedAt}
+use Rattle.parser.specs.PartSteps.{stateOf, keptWith, storedAs, Beside, BodyCame, ReadyAt, bodyAt, calledAs, LineCame}
 use Rattle.parser.proofs.Bodies.{Others, body-numbered, body-others}
 use Rattle.parser.proofs.NamedParts.{named-there, with-there, notes-set, begun, ended, lineOf, line-known}
 use Rattle.parser.proofs.PartPlaces.{element-any, element-set, parts-length, part-of, notes-of, notes-many, parts-but}
@@ -342,13 +342,13 @@ module _ (r : Sofar) (k : ℕ) (st : State) where
   unfolding storedAs
   stored-kept e = rw (e, storedAs)
 
-  pub stored-refused : (st .refusal ≡ 0 → ⊥) → refusedWith r (st .refusal) (st .line) ≡ storedAs r k st
+  pub stored-refused : (st .refusal ≡ 0 → ⊥) → refusedAt r (st .refusal) (st .line) ≡ storedAs r k st
   unfolding storedAs
   stored-refused n = go (st .refusal) refl
     where
-      go : (m : ℕ) → st .refusal ≡ m → refusedWith r (st .refusal) (st .line) ≡ storedAs r k st
+      go : (m : ℕ) → st .refusal ≡ m → refusedAt r (st .refusal) (st .line) ≡ storedAs r k st
       go zero e = absurd (n e)
-      go (suc m) e = ap (λ (i : ℕ). refusedWith r i (st .line)) e ∙ rw (e, storedAs)
+      go (suc m) e = ap (λ (i : ℕ). refusedAt r i (st .line)) e ∙ rw (e, storedAs)
 
 -- ---- what it is read on from
 

@@ -17,7 +17,7 @@ use Rattle.part.specs.Reading.{stateAfter, Held}
 use Rattle.tables.specs.Tables.{withEntry}
 use Rattle.layout.specs.Regions.{region}
 use Rattle.parser.specs.declared.sofar.Sofar.{Sofar}
-use Rattle.parser.specs.Columns.{partsFrom, playedIn, Fits, Came}
+use Rattle.parser.specs.Columns.{partsFrom, playedIn, Fits, Came, refusedAt}
 use Rattle.meaning.specs.Parts.{NamedPart, linePlayed}
 
 -- ---- a part's state
@@ -33,24 +33,6 @@ stateOf r k =
       steps = r .steps;
       refusal = 0;
       line = 0;
-    }
-
--- a reading with a refusal
-abbrev pub refusedWith : Sofar → ℕ → ℕ → Sofar
-refusedWith r n l =
-    record {
-      start = r .start;
-      parts = r .parts;
-      envs = r .envs;
-      counts = r .counts;
-      depths = r .depths;
-      all = r .all;
-      macros = r .macros;
-      instruments = r .instruments;
-      steps = r .steps;
-      refusal = n;
-      line = l;
-      at = r .at;
     }
 
 -- a reading with this state for the part k
@@ -73,7 +55,7 @@ keptWith r k st =
 
 -- the one or the other
 unfoldable pub storedAs : Sofar → ℕ → State → Sofar
-storedAs r k st = elim (st .refusal) [ zero ↦ keptWith r k st | suc n ↦ refusedWith r (suc n) (st .line) ]
+storedAs r k st = elim (st .refusal) [ zero ↦ keptWith r k st | suc n ↦ refusedAt r (suc n) (st .line) ]
 
 -- ---- one more part
 
