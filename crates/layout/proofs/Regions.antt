@@ -2,7 +2,7 @@
 use mathlib.Core.Path.{_≡_, refl, sym, ap, _∙_}
 use mathlib.Core.Bool.{Bool, true, false}
 use mathlib.Core.List.{List, _++_}
-use Prim.Native.Nat.{ℕ, _+_, _*_, _-_, _≤_, _<_}
+use Prim.Native.Nat.{ℕ, _+_, _*_, _-_, _≤_, _<_, min}
 use native.Mathlib.Nat.{mul-le-mul-left}
 use native.Mathlib.Omega.{arith}
 use lib.Dec.{ltb}
@@ -10,11 +10,12 @@ use lib.ListN.{length, take, drop, length-append, length-drop, take-append-drop}
 use lib.Seq.{length-take-le, take-append-le, drop-append-le, drop-drop, take-at, drop-at}
 use borrow.Author.Tests.{ltb-true, ltb-false}
 use Rattle.layout.specs.Regions.{region}
+use Rattle.layout.proofs.Cuts.{region-length}
 
 module _ {A : Type 0} (w k : ℕ) where
-  pub region-length : (xs : List A) → w * k + w ≤ length xs → length (region w k xs) ≡ w
-  unfolding region
-  region-length xs h = length-take-le w (drop (w * k) xs) (omega (arith, h, length-drop (w * k) xs))
+  -- a region inside a column is a whole one
+  pub region-wide : (xs : List A) → w * k + w ≤ length xs → length (region w k xs) ≡ w
+  region-wide xs h = region-length w k xs ∙ (let z : min w (length xs - w * k) ≡ w = omega (arith, h) in z)
 
   -- a region in front of a place says nothing of what lies behind it
   region-front : (p q r : List A) → w * k + w ≤ length p → region w k (p ++ q) ≡ region w k (p ++ r)

@@ -20,7 +20,7 @@ use Rattle.part.specs.Columns.{macrosIn}
 use Rattle.text.specs.Names.{namesIn}
 use Rattle.layout.specs.Regions.{region}
 use Rattle.layout.specs.Layout.{linesAt, linesFrom, notesFrom}
-use Rattle.layout.proofs.Regions.{region-length}
+use Rattle.layout.proofs.Regions.{region-wide}
 use Rattle.parser.specs.declared.sofar.Sofar.{Sofar}
 use Rattle.meaning.specs.Sheets.{plain, nothingRead}
 use Rattle.parser.specs.Columns.{tablesOf, partsFrom, readIn, Fits, Tabled, Blocked, nothingSofar}
@@ -72,7 +72,7 @@ module _ (zs : List ℕ) (xs : List Float) (ss zs′ : List ℕ) (xs′ : List F
   held : linesHeld (b .count) fs ts ≡ plain
   held =
       let l = plain-lines b fs ts read in
-      held-whole (b .count) fs ts (q .few) (region-length 192 0 xs′ (omega (arith, lx))) (region-length 64 0 ss′ (omega (arith, ls)))
+      held-whole (b .count) fs ts (q .few) (region-wide 192 0 xs′ (omega (arith, lx))) (region-wide 64 0 ss′ (omega (arith, ls)))
       (ap (map clipped) l ∙ plain-whole ∙ sym l)
       ∙ l
 

@@ -12,7 +12,7 @@ use Rattle.text.specs.Lines.{linesOf}
 use Rattle.operators.specs.declared.block.Block.{Block}
 use Rattle.operators.specs.OperatorLines.{operatorLines, operatorsRead}
 use Rattle.operators.specs.Blocks.{blockRead, blockOutcome}
-use Rattle.layout.proofs.Regions.{lent, back, lent-region, region-length, back-here, back-beside}
+use Rattle.layout.proofs.Regions.{lent, back, lent-region, region-wide, back-here, back-beside}
 use Rattle.parser.specs.Columns.{Blocked}
 
 -- where the columns have room, the lines are all that counts
@@ -22,10 +22,10 @@ room-read line below m n e f = rw (le-leb 192 m (omega (arith, e)), le-leb 64 n 
 
 module _ (s : List ℕ) (at i : ℕ) (b : Block) (fs : List Float) (ss : List ℕ) (ys : List Float) (zs : List ℕ) (h : i < 32) (lf : length fs ≡ 6144) (ls : length ss ≡ 2048) (ky : length ys ≡ length (lent 192 i fs)) (kz : length zs ≡ length (lent 64 i ss)) where
   wide : length (lent 192 i fs) ≡ 192
-  wide = ap length (lent-region 192 i fs) ∙ region-length 192 i fs (omega (arith, h, lf))
+  wide = ap length (lent-region 192 i fs) ∙ region-wide 192 i fs (omega (arith, h, lf))
 
   high : length (lent 64 i ss) ≡ 64
-  high = ap length (lent-region 64 i ss) ∙ region-length 64 i ss (omega (arith, h, ls))
+  high = ap length (lent-region 64 i ss) ∙ region-wide 64 i ss (omega (arith, h, ls))
 
   ly : length ys ≡ 192
   ly = ky ∙ wide

@@ -23,7 +23,7 @@ use Rattle.operators.specs.Blocks.{linesIn, blockOutcome}
 use Rattle.commands.specs.Commands.{linesHeld}
 use Rattle.layout.specs.Regions.{region}
 use Rattle.layout.specs.Layout.{linesAt, linesFrom}
-use Rattle.layout.proofs.Regions.{region-length}
+use Rattle.layout.proofs.Regions.{region-wide}
 use Rattle.text.specs.Names.{namesIn}
 use Rattle.tables.specs.Tables.{headerOf, headerLine, numberOf, headersAfter}
 use Rattle.tables.proofs.NamesGrown.{names-grown}
@@ -190,8 +190,8 @@ module _ (s places : List ℕ) (r : Sofar) (fs : List Float) (is ls ms bs ns zs 
         held : linesHeld (k .count) (region 192 i xs′) (region 64 i ss′) ≡ own
         held =
             held-whole (k .count) (region 192 i xs′) (region 64 i ss′) (q .few)
-            (region-length 192 i xs′ (omega (arith, few, lx, g .numbers-length)))
-            (region-length 64 i ss′ (omega (arith, few, ly, g .shape-length)))
+            (region-wide 192 i xs′ (omega (arith, few, lx, g .numbers-length)))
+            (region-wide 64 i ss′ (omega (arith, few, ly, g .shape-length)))
             (of-lines .whole)
 
         abbrev zs′ : List ℕ

@@ -17,7 +17,7 @@ use Rattle.sheet.specs.declared.note.Note.{Note}
 use Rattle.notes.proofs.Columns.{notes-length}
 use Rattle.layout.specs.Regions.{region}
 use Rattle.layout.specs.Layout.{notesAt, notesFrom}
-use Rattle.layout.proofs.Regions.{region-length}
+use Rattle.layout.proofs.Regions.{region-wide}
 use Rattle.parser.specs.declared.sofar.Sofar.{Sofar}
 use Rattle.meaning.specs.Parts.{NamedPart, notesOf}
 use Rattle.parser.specs.Columns.{partAt, partsFrom}
@@ -93,7 +93,7 @@ module _ (s places : List ℕ) (r : Sofar) (fs : List Float) (is ls : List ℕ) 
   unfolding notesAt
   notes-many k h l =
       notes-length (region (3 * notesMost) k fs) (take (getD (r .counts) k 0) (region notesMost k is))
-      ∙ length-take-le (getD (r .counts) k 0) (region notesMost k is) (omega (arith, h, region-length notesMost k is l))
+      ∙ length-take-le (getD (r .counts) k 0) (region notesMost k is) (omega (arith, h, region-wide notesMost k is l))
 
 -- ---- two readings
 

@@ -23,7 +23,7 @@ use Rattle.part.specs.Columns.{progressOf, Ready}
 use Rattle.part.specs.Reading.{isReady, partIn, stateAfter, Held}
 use Rattle.layout.specs.Regions.{region}
 use Rattle.layout.specs.Layout.{notesAt, notesFrom}
-use Rattle.layout.proofs.Regions.{lent, back, lent-region, region-length, back-here, back-beside, back-length}
+use Rattle.layout.proofs.Regions.{lent, back, lent-region, region-wide, back-here, back-beside, back-length}
 use Rattle.parser.specs.declared.sofar.Sofar.{Sofar}
 use Rattle.meaning.specs.Parts.{NamedPart, Played, notesOf, withPartNamed, linePlayed}
 use Rattle.parser.specs.Columns.{partAt, partsFrom, playedIn, playedOutcome, Fits, Came, refusedAt}
@@ -74,9 +74,9 @@ module _ (book : Book) (line : ℕ) (text : List ℕ) (st q : State) where
         → BodyCame (bodyAt book line text k st fs is ls) k st q fs is ls (back (3 * notesMost) k fs gs) (back notesMost k is js) (back (2 * loopsMost) k ls ms)
     unfolding bodyAt
     body-came h lf li ll rs g ag aj am p =
-        let lg = ag ∙ ap length (lent-region (3 * notesMost) k fs) ∙ region-length (3 * notesMost) k fs (omega (arith, h, lf)) in
-        let lj = aj ∙ ap length (lent-region notesMost k is) ∙ region-length notesMost k is (omega (arith, h, li)) in
-        let lm = am ∙ ap length (lent-region (2 * loopsMost) k ls) ∙ region-length (2 * loopsMost) k ls (omega (arith, h, ll)) in
+        let lg = ag ∙ ap length (lent-region (3 * notesMost) k fs) ∙ region-wide (3 * notesMost) k fs (omega (arith, h, lf)) in
+        let lj = aj ∙ ap length (lent-region notesMost k is) ∙ region-wide notesMost k is (omega (arith, h, li)) in
+        let lm = am ∙ ap length (lent-region (2 * loopsMost) k ls) ∙ region-wide (2 * loopsMost) k ls (omega (arith, h, ll)) in
         let a = subst (λ (x : List Float). Promised x (lent notesMost k is) (lent (2 * loopsMost) k ls) gs js ms) (lent-region (3 * notesMost) k fs) p in
         let b = subst (λ (x : List ℕ). Promised (region (3 * notesMost) k fs) x (lent (2 * loopsMost) k ls) gs js ms) (lent-region notesMost k is) a in
         let c = subst (λ (x : List ℕ). Promised (region (3 * notesMost) k fs) (region notesMost k is) x gs js ms) (lent-region (2 * loopsMost) k ls) b in
@@ -167,10 +167,10 @@ module _ (places : List ℕ) (r : Sofar) (fs : List Float) (is ls : List ℕ) (g
         room = record {
           octave = g .octaves k h;
           few = omega (arith, own-few, g .notes);
-          floats = region-length (3 * notesMost) k fs (omega (arith, few, g .floats-length));
-          instruments = region-length notesMost k is (omega (arith, few, g .bytes-length));
+          floats = region-wide (3 * notesMost) k fs (omega (arith, few, g .floats-length));
+          instruments = region-wide notesMost k is (omega (arith, few, g .bytes-length));
         };
-        deep = record { few = g .depths k h; places = region-length (2 * loopsMost) k ls (omega (arith, few, g .loops-length)) };
+        deep = record { few = g .depths k h; places = region-wide (2 * loopsMost) k ls (omega (arith, few, g .loops-length)) };
       }
 
   progress-is : (s : List ℕ) → progressOf (stateOf r k) (region (3 * notesMost) k fs) (region notesMost k is) (region (2 * loopsMost) k ls)
