@@ -85,6 +85,7 @@ macroRead line l r = do
 
 -- ---- parts
 
+-- a part's line: what it does to the parts and to the steps, with the macros and the instruments that were read above it
 unfoldable pub partRead : ℕ → ℕ → Option Named → Read → Outcome Read
 unfolding linePlayed bookOf
 partRead rate line n r = do

@@ -2,7 +2,7 @@
 use mathlib.Core.Path.{_≡_, refl}
 use mathlib.Core.Bool.{Bool, true, false, _||_}
 use mathlib.Core.List.{List, [], _∷_}
-use mathlib.Core.Option.{Option, none, some}
+use mathlib.Core.Option.{Option}
 use Prim.Native.Nat.{ℕ, zero, suc, _<_}
 use native.Mathlib.Omega.{arith}
 use lib.Ieee.{lt}
@@ -13,29 +13,19 @@ use Rattle.sheet.proofs.Holds.{Holds, holds-going, holds-refused, holds-unless,
 use Rattle.sheet.proofs.Outcomes.{Numbered, numbered-going, numbered-refused, numbered-unless, numbered-then}
 use Rattle.environment.specs.declared.environment.Environment.{Environment}
 use Rattle.environment.specs.declared.key.Key.{Key}
-use Rattle.environment.specs.Bounds.{Bounds}
-use Rattle.environment.specs.Ranges.{Amount, amount, unreadable, tooLong, ranged, readable, loudness}
+use Rattle.environment.specs.Ranges.{Amount, amount, unreadable, tooLong, readable, loudness}
 use Rattle.environment.specs.Changes.{octaveRead, valueRead, tempoRead, amplitudeRead, keyRead}
 use Rattle.items.specs.Items.{Item, note, up, down, opening, cut, closing, octave, value, tempo, amplitude, key, instrument, call, unknown, itemsOf}
+use Rattle.parser.proofs.Numbers.{numbered-without, ranged-numbered}
 use Rattle.part.specs.Body.{Macro, Book, Progress, oneStep, noted, opened, cutHere, closed, changing, called, does, stepped, run, inside, bodyRead}
 
 -- ---- a refusal's number
 
 module _ (line : ℕ) where
-  without-numbered : {A : Type 0} (n : ℕ) (o : Option A) → 0 < n → Numbered (refuse_on_without_ n line o)
-  unfolding Numbered refuse_on_without_
-  without-numbered n none h = h
-  without-numbered n (some x) h = tt
-
   if-numbered : {A : Type 0} (n : ℕ) (t : Bool) (rest : Outcome A) → 0 < n → Numbered rest → Numbered (_>>_ (refuse_on_if_ n line t) rest)
   unfolding Numbered _>>_ refuse_on_if_
   if-numbered n true rest h k = h
   if-numbered n false rest h k = k
-
-  ranged-numbered : (b : Bounds) (n : Option ℕ) → Numbered (ranged line b n)
-  unfolding ranged
-  ranged-numbered b n =
-      numbered-then _ _ (without-numbered 7 n (omega arith)) (λ v. numbered-unless _ _ _ _ (omega arith) (numbered-going v))
 
   readable-numbered : (a : Amount) → Numbered (readable line a)
   unfolding readable
@@ -51,15 +41,15 @@ module _ (line : ℕ) where
   module _ (e : Environment) where
     octave-numbered : (n : Option ℕ) → Numbered (octaveRead line n e)
     unfolding octaveRead
-    octave-numbered n = numbered-then _ _ (ranged-numbered _ n) (λ v. numbered-going _)
+    octave-numbered n = numbered-then _ _ (ranged-numbered line _ n) (λ v. numbered-going _)
 
     value-numbered : (n : Option ℕ) → Numbered (valueRead line n e)
     unfolding valueRead
-    value-numbered n = numbered-then _ _ (ranged-numbered _ n) (λ v. numbered-going _)
+    value-numbered n = numbered-then _ _ (ranged-numbered line _ n) (λ v. numbered-going _)
 
     tempo-numbered : (n : Option ℕ) → Numbered (tempoRead line n e)
     unfolding tempoRead
-    tempo-numbered n = numbered-then _ _ (ranged-numbered _ n) (λ v. numbered-going _)
+    tempo-numbered n = numbered-then _ _ (ranged-numbered line _ n) (λ v. numbered-going _)
 
     amplitude-numbered : (a : Amount) → Numbered (amplitudeRead line a e)
     unfolding amplitudeRead
@@ -67,7 +57,7 @@ module _ (line : ℕ) where
 
     key-numbered : (k : Option Key) → Numbered (keyRead line k e)
     unfolding keyRead
-    key-numbered k = numbered-then _ _ (without-numbered 9 k (omega arith)) (λ x. numbered-going _)
+    key-numbered k = numbered-then _ _ (numbered-without 9 line k (omega arith)) (λ x. numbered-going _)
 
   changing-numbered : (o : Outcome Environment) (p : Progress) → Numbered o → Numbered (changing o p)
   unfolding changing
@@ -82,17 +72,17 @@ module _ (book : Book) (line : ℕ) (inner : Macro → Progress → Outcome Prog
   does-numbered up p = numbered-going _
   does-numbered down p = numbered-going _
   does-numbered opening p = numbered-unless _ _ _ _ (omega arith) (numbered-going _)
-  does-numbered cut p = numbered-then _ _ (without-numbered line _ _ (omega arith)) (λ x. numbered-going _)
+  does-numbered cut p = numbered-then _ _ (numbered-without _ line _ (omega arith)) (λ x. numbered-going _)
   does-numbered (closing n) p =
-      numbered-then _ _ (without-numbered line _ _ (omega arith))
-      (λ x. numbered-then _ _ (without-numbered line _ _ (omega arith)) (λ k. numbered-unless _ _ _ _ (omega arith) (numbered-going _)))
+      numbered-then _ _ (numbered-without _ line _ (omega arith))
+      (λ x. numbered-then _ _ (numbered-without _ line _ (omega arith)) (λ k. numbered-unless _ _ _ _ (omega arith) (numbered-going _)))
   does-numbered (octave n) p = changing-numbered line _ p (octave-numbered line (p .part .env) n)
   does-numbered (value n) p = changing-numbered line _ p (value-numbered line (p .part .env) n)
   does-numbered (tempo n) p = changing-numbered line _ p (tempo-numbered line (p .part .env) n)
   does-numbered (amplitude a) p = changing-numbered line _ p (amplitude-numbered line (p .part .env) a)
   does-numbered (key k) p = changing-numbered line _ p (key-numbered line (p .part .env) k)
-  does-numbered (instrument name) p = numbered-then _ _ (without-numbered line _ _ (omega arith)) (λ i. numbered-going _)
-  does-numbered (call name) p = numbered-then _ _ (without-numbered line _ _ (omega arith)) (λ m. calls m p)
+  does-numbered (instrument name) p = numbered-then _ _ (numbered-without _ line _ (omega arith)) (λ i. numbered-going _)
+  does-numbered (call name) p = numbered-then _ _ (numbered-without _ line _ (omega arith)) (λ m. calls m p)
   does-numbered unknown p = numbered-refused _ 14 line (omega arith)
 
   run-numbered : (is : List Item) (p : Progress) → Numbered (run book line inner is p)

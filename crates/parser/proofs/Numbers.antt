@@ -29,7 +29,7 @@ numbered-without n l (some x) h = tt
 
 -- ---- directives
 
-ranged-numbered : (line : ℕ) (b : Bounds) (n : Option ℕ) → Numbered (ranged line b n)
+pub ranged-numbered : (line : ℕ) (b : Bounds) (n : Option ℕ) → Numbered (ranged line b n)
 unfolding ranged
 ranged-numbered line b n =
     numbered-then _ _ (numbered-without 7 line n (omega arith)) (λ v. numbered-unless 8 line _ _ (omega arith) (numbered-going v))

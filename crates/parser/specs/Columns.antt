@@ -1,6 +1,6 @@
 -- What the code keeps while a sheet is read, in the terms of `Parts.antt` and `Sheets.antt`: each part has its regions of the columns of notes and of open
--- loops and its place in the arrays of a `Sofar`; names are places in the source. What stands past a count says nothing. The contracts of the functions that
--- read lines cite this. Assumes nothing.
+-- loops and its place in the arrays of a `Sofar`; names are places in the source. What stands past a count says nothing. Private contracts of the functions
+-- that read lines cite this, and no public one. Assumes nothing.
 use mathlib.Core.Path.{_≡_}
 use mathlib.Core.List.{List, [], _∷_, map}
 use mathlib.Core.Option.{none}

@@ -1,5 +1,5 @@
 -- What the pieces of a part's line promise: the state that a part is read on from, the reading with the state that has come of it, a reading with one more
--- part, and the regions of the columns behind a body. Assumes nothing.
+-- part, and the regions of the columns behind a body. Private contracts cite this, and no public one. Assumes nothing.
 use mathlib.Core.Path.{_≡_}
 use mathlib.Core.List.{List, [], _∷_}
 use mathlib.Core.Option.{some}
