@@ -14,15 +14,8 @@ use lib.Ieee.Order.{le-of-values}
 use lib.Ieee.Scale.{round-same}
 use borrow.Author.Tests.{ltb-false, le-ltb, eq-eqb, ne-eqb}
 use Rattle.ieee.specs.Constants.{plusZero}
+use Rattle.ieee.specs.Times.{isTime}
 use Rattle.ieee.proofs.Nonnegative.{nonnegative, round-nonnegative}
-
--- neither a NaN nor below zero
-abbrev pub isTime : Float → Bool
-isTime nan = false
-isTime (inf s) = not s
-isTime (fin true zero e) = true
-isTime (fin true (suc m) e) = false
-isTime (fin false m e) = true
 
 -- without its sign
 abbrev pub cleared : Float → Float

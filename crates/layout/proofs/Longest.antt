@@ -7,7 +7,7 @@ use lib.ListN.{length, take, getD}
 use lib.Ieee.{Float}
 use Rattle.sheet.proofs.Basics.{take-least}
 use Rattle.notes.specs.Columns.{notesIn}
-use Rattle.notes.specs.Lengths.{endOf}
+use Rattle.sheet.specs.Lengths.{endOf}
 use Rattle.layout.specs.Layout.{notesAt, longestFrom}
 use Rattle.layout.specs.Regions.{region}
 use Rattle.layout.proofs.Cuts.{region-length}

@@ -10,7 +10,7 @@ use Rattle.sheet.specs.Capacities.{notesMost, operatorsMost}
 use Rattle.layout.specs.Regions.{region}
 use Rattle.sheet.specs.declared.note.Note.{Note}
 use Rattle.notes.specs.Columns.{notesIn}
-use Rattle.notes.specs.Lengths.{endOf}
+use Rattle.sheet.specs.Lengths.{endOf}
 use Rattle.commands.specs.Commands.{linesHeld}
 
 -- ---- notes

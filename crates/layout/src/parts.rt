@@ -8,12 +8,12 @@ ghost use Rattle.ieee.specs.Constants.{plusZero};
 ghost use Rattle.sheet.specs.Capacities.{notesMost, partsMost};
 ghost use Rattle.sheet.specs.Padding.{padded, silence};
 ghost use Rattle.notes.specs.Columns.{notesIn};
-ghost use Rattle.notes.specs.Lengths.{endOf};
+ghost use Rattle.sheet.specs.Lengths.{endOf};
 ghost use Rattle.layout.specs.Regions.{region};
 ghost use Rattle.layout.specs.Layout.{notesFrom, longestFrom};
-use notes::length::larger;
 use notes::length::number_at;
 use notes::length::part_end;
+use sheet::length::larger;
 use sheet::note::Note;
 use text::names::least;
 

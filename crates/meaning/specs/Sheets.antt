@@ -19,7 +19,7 @@ use Rattle.environment.specs.Environment.{atTheStart}
 use Rattle.operators.specs.OperatorLines.{operatorLines, operatorsRead}
 use Rattle.part.specs.Body.{Macro, Book}
 use Rattle.tables.specs.Tables.{macroOf, headerOf}
-use Rattle.notes.specs.Lengths.{endOf}
+use Rattle.sheet.specs.Lengths.{endOf}
 use Rattle.directive.specs.Directives.{directiveOf}
 use Rattle.meaning.specs.Parts.{NamedPart, everyPart, linePlayed}
 

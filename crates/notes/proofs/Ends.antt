@@ -8,9 +8,8 @@ use lib.Seq.{drop-cons, drop-drop, getD-drop}
 use lib.Ieee.{Float, nan, binary32, add}
 use Rattle.ieee.specs.Constants.{plusZero}
 use Rattle.tone.specs.Time.{lengthOf}
-use Rattle.notes.specs.Notes.{soundingOf, samplesOf}
 use Rattle.notes.specs.Columns.{notesIn}
-use Rattle.notes.specs.Lengths.{endOf}
+use Rattle.sheet.specs.Lengths.{soundingOf, samplesOf, endOf}
 
 -- i notes are done: the next begins at `start`, `end` is the largest end of those, and with the rest it comes to the end of all
 pub record Ending (rate : ℕ) (releases fs : List Float) (is : List ℕ) (i start end : ℕ) : Type 0 where

@@ -1,3 +1,2 @@
 pub mod Columns
-pub mod Lengths
 pub mod Notes

@@ -4,13 +4,11 @@ use mathlib.Core.List.{[], _∷_}
 use mathlib.Core.Option.{Option, none, some}
 use Prim.Native.Nat.{ℕ, _+_, _*_}
 use lib.Dec.{leb}
-use lib.Ieee.{Float, binary32, add}
+use lib.Ieee.{Float}
 use Rattle.ieee.specs.Constants.{plusZero}
 use Rattle.text.specs.Characters.{is, rowOf}
-use Rattle.tone.specs.declared.time.Length.{Length}
-use Rattle.tone.specs.declared.time.Length.the-variants.{Samples, NotANumber, Negative, TooMany}
 use Rattle.tone.specs.Power.{frequencyOf}
-use Rattle.tone.specs.Time.{durationOf, lengthOf}
+use Rattle.tone.specs.Time.{durationOf}
 use Rattle.sheet.specs.declared.note.Note.{Note}
 use Rattle.environment.specs.declared.environment.Environment.{Environment}
 use Rattle.environment.specs.declared.key.Accidental.{Accidental}
@@ -52,24 +50,3 @@ noteOf e letter a v dot =
       duration = durationOf (e .tempo) (e .denominator) v dot;
       instrument = e .instrument;
     }
-
--- ---- how long it sounds
-
--- "sounds ceil((duration + release)·44100) samples", at any rate
-unfoldable pub soundingOf : ℕ → Float → Note → Length
-unfolding lengthOf
-soundingOf rate release n = lengthOf rate (add binary32 (n .duration) release)
-
--- "One note with its release 16,777,216 samples": whether it has a number of samples within that
-unfoldable pub isCounted : Length → Bool
-isCounted (Samples n) = true
-isCounted NotANumber = false
-isCounted Negative = false
-isCounted TooMany = false
-
--- how many samples a length has; none where it has no number of them
-unfoldable pub samplesOf : Length → ℕ
-samplesOf (Samples n) = n
-samplesOf NotANumber = 0
-samplesOf Negative = 0
-samplesOf TooMany = 0

@@ -1,39 +1,16 @@
 // How long the notes of a part last: the largest end of a sounding note, in samples.
 
 ghost use mathlib.Core.Path.{_≡_};
-ghost use Prim.Native.Nat.{_≤_, min, max};
+ghost use Prim.Native.Nat.{min};
 ghost use lib.ListN.{take, getD};
 ghost use lib.Ieee.{nan};
 ghost use Rattle.ieee.specs.Constants.{plusZero};
-ghost use Rattle.tone.specs.Time.{lengthOf};
 ghost use Rattle.sheet.specs.Capacities.{notesMost};
+ghost use Rattle.sheet.specs.Lengths.{endOf};
 ghost use Rattle.notes.specs.Columns.{notesIn};
-ghost use Rattle.notes.specs.Lengths.{endOf};
-ghost use Rattle.notes.specs.Notes.{samplesOf};
+use sheet::length::larger;
+use sheet::length::samples;
 use text::names::least;
-use tone::time::Length;
-use tone::time::sec_to_len;
-
-// How many samples so many seconds take: none where they have no number of samples that one note may have.
-fn samples(seconds: f32, rate: u32) -> u64
-    ensures { λ r. ⌜ (r ≡ samplesOf (lengthOf rate seconds)) × (r ≤ 16777216) ⌝ }
-{
-    let length = sec_to_len(seconds, rate);
-    match length {
-        Length::Samples(n) => {
-            return n;
-        }
-        Length::NotANumber => {
-            return 0;
-        }
-        Length::Negative => {
-            return 0;
-        }
-        Length::TooMany => {
-            return 0;
-        }
-    }
-}
 
 // A number of a column: past its end 0.0.
 pub fn number_at(floats: &[f32], i: usize) -> f32
@@ -54,16 +31,6 @@ fn release_at(releases: &[f32], i: usize) -> f32
     }
     let zero: f32 = 0.0;
     zero / zero
-}
-
-// The larger of two ends.
-pub fn larger(a: u64, b: u64) -> u64
-    ensures { λ r. ⌜ r ≡ max a b ⌝ }
-{
-    if a < b {
-        return b;
-    }
-    a
 }
 
 // The largest end of the first `count` notes of two columns, at most 2,048 of them: 0 where there is none. An instrument past the table of releases has a

@@ -14,7 +14,7 @@ use Rattle.sheet.specs.declared.note.Note.{Note}
 use Rattle.sheet.specs.declared.sheet.Sheet.{Sheet}
 use Rattle.sheet.specs.Padding.{padded, silence}
 use Rattle.sheet.specs.Refusals.{going}
-use Rattle.notes.specs.Lengths.{endOf}
+use Rattle.sheet.specs.Lengths.{endOf}
 use Rattle.commands.specs.Commands.{instrumentOf}
 use Rattle.layout.specs.Layout.{notesAt, notesFrom, longestFrom, linesFrom}
 use Rattle.layout.proofs.Laid.{notes-many}

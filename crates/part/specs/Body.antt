@@ -18,7 +18,8 @@ use Rattle.environment.specs.Changes.{octaveRead, valueRead, tempoRead, amplitu
 use Rattle.environment.specs.Environment.{withInstrument, octaveUp, octaveDown}
 use Rattle.items.specs.Items.{Item, note, up, down, opening, cut, closing, octave, value, tempo, amplitude, key, instrument, call, unknown, itemsOf}
 use Rattle.loops.specs.Loops.{Loop, played, playedCount, innermost, counted}
-use Rattle.notes.specs.Notes.{noteOf, valueOf, soundingOf, isCounted}
+use Rattle.sheet.specs.Lengths.{soundingOf, isCounted}
+use Rattle.notes.specs.Notes.{noteOf, valueOf}
 
 -- ---- what a body is read in
 

@@ -1,4 +1,5 @@
 pub mod Basics
 pub mod Holds
+pub mod Lengths
 pub mod Outcomes
 pub mod Padded

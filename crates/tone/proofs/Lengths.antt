@@ -3,20 +3,23 @@
 use mathlib.Core.Path.{_≡_, refl, sym, ap, _∙_}
 use mathlib.Core.Logic.{_⊎_, inl, inr}
 use mathlib.Core.Bool.{Bool, true, false}
-use Prim.Native.Nat.{ℕ, zero, suc, _*_, _≤_, _<_}
+use Prim.Native.Nat.{ℕ, zero, suc, _*_, _^_, _≤_, _<_}
+use native.Mathlib.Nat.{mul-pos}
 use native.Mathlib.Omega.{arith}
 use lib.Dec.{T, leb, eqb, ltb→lt}
 use lib.IntN.{ℤ, pos}
-use lib.Ieee.{Float, nan, inf, fin, binary32, up, down, le, add, mul, ofInt, fits}
+use lib.Ieee.{Float, nan, inf, fin, binary32, up, down, unlike, le, add, mul, round, ofInt, fits}
 use lib.Ieee.Fits.{down-pos}
-use lib.Ieee.Positive.{positive, positive-of-value}
+use lib.Ieee.Order.{round-mono}
+use lib.Ieee.Positive.{positive, between}
 use borrow.Author.Tests.{leb-true}
 use Rattle.tone.specs.declared.time.Length.{Length}
 use Rattle.tone.specs.declared.time.Length.the-variants.{Samples, Negative, TooMany}
 use Rattle.tone.specs.Time.{ceiling, countOf, lengthOf, noteMost}
-use Rattle.tone.proofs.Counts.{ceiling-le, ceiling-grows, counted, whole-value}
+use Rattle.tone.proofs.Counts.{ceiling-le, ceiling-grows, counted}
 use Rattle.ieee.proofs.Nonnegative.{nonnegative, le-fractions, times-nonnegative, times-grows, add-nonnegative, add-grows}
-use Rattle.ieee.proofs.Times.{isTime, cleared, cleared-nonnegative, cleared-fits, times-cleared, add-cleared, times-time, add-time, le-cleared}
+use Rattle.ieee.specs.Times.{isTime}
+use Rattle.ieee.proofs.Times.{round-zero, cleared, cleared-nonnegative, cleared-fits, times-cleared, add-cleared, times-time, add-time, le-cleared}
 
 -- ---- what a number of samples says
 
@@ -98,10 +101,17 @@ form (inf s) h = absurd h
 form (fin true p g) h = absurd h
 form (fin false p g) h = (p, g, ltb→lt 0 p h, refl)
 
--- at any rate that an f32 counts without a gap
-module _ (rate : ℕ) (r : 0 < rate) (r' : rate ≤ noteMost) where
+-- a rate above zero is a finite number above zero
+rate-positive : (rate : ℕ) → 0 < rate → rate < 2 ^ 32 → T (positive (ofInt binary32 (pos rate)))
+unfolding ofInt
+rate-positive rate r r' =
+    between (round binary32 false 1 1) (round binary32 false rate 1) (round binary32 false (2 ^ 32) 1) tt tt
+    (round-mono binary32 1 1 rate 1 (omega arith) (omega arith) (omega arith)) (round-mono binary32 rate 1 (2 ^ 32) 1 (omega arith) (omega arith) (omega arith))
+
+-- at any rate above zero
+module _ (rate : ℕ) (r : 0 < rate) (r' : rate < 2 ^ 32) where
   rate-is : (p : ℕ) × (g : ℤ) × (0 < p) × (ofInt binary32 (pos rate) ≡ fin false p g)
-  rate-is = form (ofInt binary32 (pos rate)) (positive-of-value (ofInt binary32 (pos rate)) rate 1 (whole-value rate r') r)
+  rate-is = form (ofInt binary32 (pos rate)) (rate-positive rate r r')
 
   product-nonnegative : (x : Float) → T (nonnegative x) → T (nonnegative (mul binary32 x (ofInt binary32 (pos rate))))
   product-nonnegative x h = rw (rate-is .3) (times-nonnegative binary32 _ _ (rate-is .2) x h)
@@ -143,3 +153,28 @@ module _ (rate : ℕ) (r : 0 < rate) (r' : rate ≤ noteMost) where
       let e = length-cleared (add binary32 duration release) (add-time duration release h i) ∙ ap (lengthOf rate) (add-cleared duration release h i) in
       let g = grows d (add binary32 d r) n k (add-nonnegative binary32 d r k l) (add-grows binary32 d r (cleared-fits duration t) k l) (sym e ∙ s) in
       (g .0, length-cleared duration h ∙ g .1, g .2)
+
+-- ---- at rate 0
+
+zero-count : (s : Bool) → countOf (round binary32 s 0 1) ≡ Samples 0
+unfolding countOf round
+zero-count true = refl
+zero-count false = refl
+
+not-counted : (n : ℕ) → countOf nan ≡ Samples n → n ≡ 0
+unfolding countOf
+not-counted n h = let z : _≡_ {A = ℕ} 0 1 = cc in absurd (omega arith)
+
+no-product : (x : Float) (e : ℤ) (n : ℕ) → countOf (mul binary32 x (fin false 0 e)) ≡ Samples n → n ≡ 0
+unfolding mul
+no-product nan e n h = not-counted n h
+no-product (inf s) e n h = not-counted n h
+no-product (fin s m d) e n h =
+    let q = ap countOf (round-zero binary32 (unlike s false) (m * up d * (0 * up e)) (down d * down e) (omega arith) (mul-pos (down-pos d) (down-pos e))) ∙ zero-count (unlike s false) in
+    let z : Samples 0 ≡ Samples n = sym q ∙ h in
+    cc
+
+-- no time has a sample
+pub length-at-none : (x : Float) (n : ℕ) → lengthOf 0 x ≡ Samples n → n ≡ 0
+unfolding lengthOf ofInt
+length-at-none x n h = no-product x _ n h

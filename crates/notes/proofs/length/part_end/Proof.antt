@@ -8,7 +8,7 @@ use lib.Seq.{length-take-le, getD-take}
 use lib.Ieee.{nan}
 use borrow.Author.Needs.{needs}
 use Rattle.notes.specs.Columns.{notesIn}
-use Rattle.notes.specs.Lengths.{endOf}
+use Rattle.sheet.specs.Lengths.{endOf}
 use Rattle.sheet.proofs.Basics.{take-least}
 use Rattle.notes.proofs.Ends.{Ending, ending-start, ending-more, ending-end}
 use Rattle.notes.proofs.length.part_end.Statement.{statement}

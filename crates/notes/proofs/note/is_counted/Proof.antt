@@ -1,7 +1,7 @@
 -- `is_counted` is the definition's four cases. Assumes nothing.
 use mathlib.Core.Path.{sym, ap, _∙_}
 use borrow.Author.Needs.{needs}
-use Rattle.notes.specs.Notes.{isCounted}
+use Rattle.sheet.specs.Lengths.{isCounted}
 use Rattle.notes.proofs.note.is_counted.Statement.{statement}
 use Rattle.notes.proofs.note.is_counted.Tie as tie
 

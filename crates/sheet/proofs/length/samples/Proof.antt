@@ -3,9 +3,9 @@ use mathlib.Core.Path.{sym, ap, _∙_}
 use native.Mathlib.Omega.{arith}
 use borrow.Author.Needs.{needs}
 use Rattle.tone.proofs.Lengths.{length-most}
-use Rattle.notes.specs.Notes.{samplesOf}
-use Rattle.notes.proofs.length.samples.Statement.{statement}
-use Rattle.notes.proofs.length.samples.Tie as tie
+use Rattle.sheet.specs.Lengths.{samplesOf}
+use Rattle.sheet.proofs.length.samples.Statement.{statement}
+use Rattle.sheet.proofs.length.samples.Tie as tie
 
 sec-to-len-requires : tie.Need-sec-to-len-requires
 sec-to-len-requires c κs = search needs
