@@ -1,5 +1,11 @@
 pub mod Answers
 pub mod Demand3
+pub mod Durations
+pub mod Handed
+pub mod InstrumentsKept
+pub mod Laid
+pub mod NotesKept
+pub mod PartsKept
 pub mod Starred
 pub mod StepCount
 pub mod Throughout

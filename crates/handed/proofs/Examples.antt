@@ -1,0 +1,75 @@
+-- Worked checks: a release of -3 is negative though duration and release together are not, -0.0 is not negative, and a feedback of 255 passes where 256
+-- does not. Assumes nothing.
+use mathlib.Core.Path.{_≡_, refl}
+use mathlib.Core.Bool.{true, false}
+use mathlib.Core.List.{List, [], _∷_}
+use Prim.Native.Nat.{ℕ}
+use lib.IntN.{pos}
+use lib.Ieee.{Float, nan, fin, binary32, add, mul, ofInt, round}
+use Rattle.ieee.specs.Constants.{plusZero, minusZero, one}
+use Rattle.tone.specs.Time.{countOf, lengthOf}
+use Rattle.instrument.specs.declared.machine.Command.the-variants as Command
+use Rattle.instrument.specs.declared.machine.Slot.{Slot}
+use Rattle.instrument.specs.declared.machine.Instrument.{Instrument}
+use Rattle.sheet.specs.declared.note.Note.{Note}
+use Rattle.sheet.specs.Lengths.{soundingOf, isCounted}
+use Rattle.sheet.specs.Parts.{releasesOf}
+use Rattle.handed.specs.Check.{all, commandPasses, slotPasses, instrumentPasses, notePasses}
+
+abbrev released : Float → Instrument
+released r = record { release = r; commands = []; count = 0 }
+
+abbrev lasting : Float → Note
+lasting d = record { amplitude = one; frequency = one; duration = d; instrument = 0 }
+
+abbrev five : Float
+five = fin false 5 (pos 0)
+
+abbrev minusThree : Float
+minusThree = fin true 3 (pos 0)
+
+-- the note alone would be counted
+three-left : isCounted (soundingOf 44100 minusThree (lasting five)) ≡ true
+unfolding isCounted soundingOf lengthOf countOf add mul ofInt round
+three-left = refl
+
+minus-three : instrumentPasses (released minusThree) ≡ false
+unfolding instrumentPasses
+minus-three = refl
+
+no-number : instrumentPasses (released nan) ≡ false
+unfolding instrumentPasses
+no-number = refl
+
+minus-zero : instrumentPasses (released minusZero) ≡ true
+unfolding instrumentPasses all
+minus-zero = refl
+
+minus-zero-lasts : notePasses 44100 (released minusZero ∷ []) (lasting minusZero) ≡ true
+unfolding notePasses releasesOf isCounted soundingOf lengthOf countOf add mul ofInt round
+minus-zero-lasts = refl
+
+-- the second instrument of one
+no-such : notePasses 44100 [] (lasting one) ≡ false
+unfolding notePasses
+no-such = refl
+
+abbrev fedBack : ℕ → Instrument
+fedBack n =
+    record {
+      release = plusZero;
+      commands =
+          record {
+            command = Command.Operator
+                (record { amplitude = one; freqratio = one; attack = plusZero; decay = plusZero; sustain = one; release = plusZero; feedback = n });
+          } ∷ [];
+      count = 1;
+    }
+
+within : instrumentPasses (fedBack 255) ≡ true
+unfolding instrumentPasses all slotPasses commandPasses
+within = refl
+
+past : instrumentPasses (fedBack 256) ≡ false
+unfolding instrumentPasses all slotPasses commandPasses
+past = refl

@@ -1,0 +1,12 @@
+pub mod Alls
+pub mod Answers
+pub mod Scans
+pub mod Cuts
+pub mod Instruments
+pub mod Totals
+pub mod Releases
+pub mod Notes
+pub mod Ends
+pub mod Examples
+pub mod Passing
+pub mod Checks
