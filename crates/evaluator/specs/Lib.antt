@@ -1,0 +1,4 @@
+pub mod Mixing
+pub mod Placing
+pub mod Samples
+pub mod Windows
