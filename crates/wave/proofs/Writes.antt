@@ -129,7 +129,7 @@ unfolding headerIn
 header-put size rate n b h = rw (le-leb _ _ h, headerIn)
 
 -- where all samples fit, all are written
-samples-put : (b : List ℕ) (at : ℕ) (xs : List Float) → at + 2 * length xs ≤ length b → samplesIn b at xs ≡ put b at (bytesOf xs)
+pub samples-put : (b : List ℕ) (at : ℕ) (xs : List Float) → at + 2 * length xs ≤ length b → samplesIn b at xs ≡ put b at (bytesOf xs)
 unfolding samplesIn countIn
 samples-put b at xs h =
     let e : min (length xs) ((length b - at) / 2) ≡ length xs = omega arith in

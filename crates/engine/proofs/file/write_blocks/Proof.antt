@@ -1,0 +1,124 @@
+-- `write_blocks` keeps: so many samples are written. A block of samples that all exist continues them (`Blocks`). Assumes nothing.
+use mathlib.Core.Path.{_≡_, refl, sym, ap, subst, _∙_}
+use Prim.Native.Nat.{ℕ, _+_, _-_, _*_, _^_, _≤_, _<_}
+use native.Mathlib.Omega.{arith}
+use borrow.Author.Needs.{needs}
+use lib.Dec.{T}
+use lib.ListN.{length}
+use lib.Seq.{length-take-le}
+use lib.Ieee.{binary32, fits}
+use borrow.Rule.Slice.PartMut.{midOf}
+use Rattle.wave.specs.Sample.{bytesOf}
+use Rattle.wave.specs.File.{put}
+use Rattle.sheet.specs.declared.note.Note.{Note}
+use Rattle.handed.proofs.Passing.{passing}
+use Rattle.evaluator.specs.Samples.{samplesFrom}
+use Rattle.evaluator.specs.Placing.{placed}
+use Rattle.evaluator.proofs.Owned.{each-tells}
+use Rattle.evaluator.proofs.Rendered.{Fitting}
+use Rattle.engine.proofs.Files.{blocks-none}
+use Rattle.engine.proofs.Blocks.{Wrote, wrote-more, wrote-length, front-kept}
+use Rattle.engine.proofs.file.write_blocks.Statement.{statement}
+use Rattle.engine.proofs.file.write_blocks.Tie as tie
+
+abbrev Inv-loop : tie.InvT-loop
+Inv-loop sheet buffer₀ at rate start n block₀ none done₀ buffer block done =
+    (done ≤ n) × (length block ≡ 4096) × (length buffer ≡ length buffer₀) × Wrote rate sheet start at buffer₀ done buffer
+
+abbrev μ-loop : tie.MeasureT-loop
+μ-loop sheet buffer₀ at rate start n block₀ none done₀ buffer block done = n - done
+
+rate-small : (c : tie.Start Inv-loop μ-loop) → c .args .rate < 2 ^ 32
+rate-small c = c .good .1 .1 .1 .0 .1
+
+fitting : (c : tie.Start Inv-loop μ-loop) → Fitting (c .args .sheet)
+fitting c =
+    each-tells _ _ (λ (n : Note). T (fits binary32 (n .duration))) (λ (n : Note) u h. subst T (sym (h .1 .1 .1 .1 .0 .1)) tt) (c .args .sheet .notes) _
+    (c .good .0 .1 .1 .1 .1 .0 .1 .1)
+
+loop-holds : tie.Need-loop-holds Inv-loop μ-loop
+loop-holds c = (omega arith, refl, refl, record { bytes = sym (blocks-none _ _ _ _) })
+
+sub-least : tie.Need-sub-least Inv-loop μ-loop
+sub-least c = search needs
+
+least-requires : tie.Need-least-requires Inv-loop μ-loop
+least-requires c κs = search needs
+
+mul-block : tie.Need-mul-block Inv-loop μ-loop
+mul-block c = search needs
+
+sub-write-block : tie.Need-sub-write-block Inv-loop μ-loop
+sub-write-block c = search needs
+
+part-block-start : tie.Need-part-block-start Inv-loop μ-loop
+part-block-start c = search needs
+
+part-block-end : tie.Need-part-block-end Inv-loop μ-loop
+part-block-end c = search needs
+
+mul-write-block : tie.Need-mul-write-block Inv-loop μ-loop
+mul-write-block c = search needs
+
+add-write-block : tie.Need-add-write-block Inv-loop μ-loop
+add-write-block c = search needs
+
+add-write-block-2 : tie.Need-add-write-block-2 Inv-loop μ-loop
+add-write-block-2 c =
+    let s = c .before .before .before .before .before .before in
+    omega (arith, s .pre .1 .0, passing (s .args .rate) (s .args .sheet) (s .pre .0) .length)
+
+write-block-requires : tie.Need-write-block-requires Inv-loop μ-loop
+write-block-requires c κs = search needs
+
+add-done : tie.Need-add-done Inv-loop μ-loop
+add-done c = search needs
+
+loop-less : tie.Need-loop-less Inv-loop μ-loop
+loop-less c = search needs
+
+loop-again : tie.Need-loop-again Inv-loop μ-loop
+loop-again c =
+    let s = c .before .before .before .before .before .before .before .before .before .before in
+    let a = s .args in
+    let l = c .before .before .before .before .before .before .before .before .loop in
+    let k = c .before .before .before .before .before .before .least in
+    let w = c .before .before .before .write-block in
+    let more : l .done + k .result ≤ a .n = omega (arith, k .ensures, l .inv .0) in
+    let part : length (midOf 0 (k .result - 0) (l .block)) ≡ k .result = length-take-le (k .result - 0) (l .block) (omega (arith, k .ensures, l .inv .1)) ∙ (let z : k .result - 0 ≡ k .result = omega arith in z) in
+    let g = wrote-more (a .rate) (a .sheet) (rate-small s) (s .pre .0) (fitting s) (a .start) (a .at) (a .n) (a .buffer .now) (s .pre .1 .0) (s .pre .1 .1) (l .done) (k .result) (l .buffer) _
+    (midOf 0 (k .result - 0) (l .block)) _ (l .inv .3) part more refl (w .ensures .1) in
+    (more, front-kept (k .result - 0) (l .block) (w .last .1 .0) (w .ensures .0) ∙ l .inv .1, wrote-length (a .rate) (a .sheet) (rate-small s) (s .pre .0) (fitting s) (a .start) (a .at) (a .n) (a .buffer .now) (s .pre .1 .0) (s .pre .1 .1) _ _ g more, g)
+
+same-length : tie.Need-same-length Inv-loop μ-loop
+same-length c = c .before .loop .inv .2
+
+returns : tie.Need-returns Inv-loop μ-loop
+returns c =
+    let a = c .before .before .before .args in
+    let l = c .before .loop in
+    let e : l .done ≡ a .n = omega (arith, l .inv .0, c .loop-test .left) in
+    l .inv .3 .bytes ∙ ap (λ (k : ℕ). put (a .buffer .now) (a .at) (bytesOf (samplesFrom (placed (a .rate) (a .sheet)) (a .start) k))) e
+
+pub write-blocks-spec : {M : Type 1} → statement M
+write-blocks-spec =
+    tie.close
+    (tie.spec
+    Inv-loop
+    μ-loop
+    loop-holds
+    sub-least
+    least-requires
+    mul-block
+    sub-write-block
+    part-block-start
+    part-block-end
+    mul-write-block
+    add-write-block
+    add-write-block-2
+    write-block-requires
+    add-done
+    loop-less
+    loop-again
+    same-length
+    returns)
