@@ -6,13 +6,12 @@ ghost use mathlib.Core.Bool.{true};
 ghost use Prim.Native.Nat.{_+_, _*_, _≤_};
 ghost use lib.ListN.{length};
 ghost use Rattle.wave.specs.Sample.{bytesOf};
-ghost use Rattle.wave.specs.File.{put, samplesIn};
+ghost use Rattle.wave.specs.File.{put};
 ghost use Rattle.sheet.specs.Answers.{answered};
 ghost use Rattle.sheet.specs.Parts.{lengthOf};
 ghost use Rattle.handed.specs.Check.{isSheet};
 ghost use Rattle.evaluator.specs.Samples.{samplesFrom};
 ghost use Rattle.evaluator.specs.Placing.{placed};
-ghost use Rattle.evaluator.specs.Mixing.{mixAll};
 ghost use Rattle.engine.specs.Files.{headerOf, headerIn, writtenOf, writtenIn};
 use evaluator::mixing::mix;
 use handed::check::check;
@@ -39,41 +38,19 @@ pub fn write_header(sheet: Sheet, buffer: &mut [u8], rate: u32) -> Answer
     Answer::Count(44)
 }
 
-// Mixes the notes of a sheet into a block whose first element is sample `start`, and writes the block as bytes from place `at` on.
-fn write_block(
-    sheet: Sheet,
-    block: &mut [f32],
-    buffer: &mut [u8],
-    at: usize,
-    rate: u32,
-    start: usize,
-)
-    ensures room { λ _. ⌜ length (now (block .exit)) ≡ length (now (block .entry)) ⌝ }
-    ensures bytes { λ _. ⌜ now (buffer .exit) ≡ samplesIn (now (buffer .entry)) at (mixAll 0 (placed rate sheet) start (now (block .entry))) ⌝ }
-{
-    mix(sheet, block, rate, start);
-    write_samples(buffer, at, block);
-}
-
 // Writes n samples from `start` on, which exist and fit, as bytes from place `at` on. They are made in blocks, large enough that the walk over the
 // sheet's notes costs little beside them.
 fn write_blocks(sheet: Sheet, buffer: &mut [u8], at: usize, rate: u32, start: usize, n: usize)
     requires { ⌜ (isSheet rate sheet ≡ true) × ((start + n ≤ lengthOf rate sheet) × (at + 2 * n ≤ length (now buffer))) ⌝ }
     ensures { λ _. ⌜ now (buffer .exit) ≡ put (now (buffer .entry)) at (bytesOf (samplesFrom (placed rate sheet) start n)) ⌝ }
 {
-    let mut block = [0.0f32; 4096];
+    let mut block = [0.0f32; 16384];
     let none: usize = 0;
     let mut done: usize = 0;
     while done < n {
-        let k = least(n - done, 4096);
-        write_block(
-            sheet,
-            &mut block[none..k],
-            buffer,
-            at + 2 * done,
-            rate,
-            start + done,
-        );
+        let k = least(n - done, 16384);
+        mix(sheet, &mut block[none..k], rate, start + done);
+        write_samples(buffer, at + 2 * done, &block[none..k]);
         done += k;
     }
 }

@@ -1,19 +1,20 @@
 -- `write_blocks` keeps: so many samples are written. A block of samples that all exist continues them (`Blocks`). Assumes nothing.
 use mathlib.Core.Path.{_≡_, refl, sym, ap, subst, _∙_}
+use mathlib.Core.List.{_++_}
 use Prim.Native.Nat.{ℕ, _+_, _-_, _*_, _^_, _≤_, _<_}
 use native.Mathlib.Omega.{arith}
 use borrow.Author.Needs.{needs}
 use lib.Dec.{T}
-use lib.ListN.{length}
-use lib.Seq.{length-take-le}
+use lib.ListN.{length, take, drop}
+use lib.Seq.{length-take-le, take-at}
 use lib.Ieee.{binary32, fits}
-use borrow.Rule.Slice.PartMut.{midOf}
 use Rattle.wave.specs.Sample.{bytesOf}
 use Rattle.wave.specs.File.{put}
 use Rattle.sheet.specs.declared.note.Note.{Note}
 use Rattle.handed.proofs.Passing.{passing}
 use Rattle.evaluator.specs.Samples.{samplesFrom}
 use Rattle.evaluator.specs.Placing.{placed}
+use Rattle.evaluator.proofs.Walk.{mix-all-length}
 use Rattle.evaluator.proofs.Owned.{each-tells}
 use Rattle.evaluator.proofs.Rendered.{Fitting}
 use Rattle.engine.proofs.Files.{blocks-none}
@@ -23,7 +24,7 @@ use Rattle.engine.proofs.file.write_blocks.Tie as tie
 
 abbrev Inv-loop : tie.InvT-loop
 Inv-loop sheet buffer₀ at rate start n block₀ none done₀ buffer block done =
-    (done ≤ n) × (length block ≡ 4096) × (length buffer ≡ length buffer₀) × Wrote rate sheet start at buffer₀ done buffer
+    (done ≤ n) × (length block ≡ 16384) × (length buffer ≡ length buffer₀) × Wrote rate sheet start at buffer₀ done buffer
 
 abbrev μ-loop : tie.MeasureT-loop
 μ-loop sheet buffer₀ at rate start n block₀ none done₀ buffer block done = n - done
@@ -35,6 +36,16 @@ fitting : (c : tie.Start Inv-loop μ-loop) → Fitting (c .args .sheet)
 fitting c =
     each-tells _ _ (λ (n : Note). T (fits binary32 (n .duration))) (λ (n : Note) u h. subst T (sym (h .1 .1 .1 .1 .0 .1)) tt) (c .args .sheet .notes) _
     (c .good .0 .1 .1 .1 .1 .0 .1 .1)
+
+-- mixing keeps the block's length
+kept : (c : tie.After-mix Inv-loop μ-loop)
+    → length (c .mix .last .1 .0 ++ drop (c .before .before .least .result - 0) (c .before .before .before .before .loop .block)) ≡ 16384
+kept c =
+    let a = c .before .before .before .before .before .before .args in
+    let l = c .before .before .before .before .loop in
+    let n = c .before .before .least .result - 0 in
+    front-kept n (l .block) (c .mix .last .1 .0) (ap length (c .mix .ensures) ∙ mix-all-length 0 (placed (a .rate) (a .sheet)) (a .start + l .done) (take n (l .block)))
+    ∙ l .inv .1
 
 loop-holds : tie.Need-loop-holds Inv-loop μ-loop
 loop-holds c = (omega arith, refl, refl, record { bytes = sym (blocks-none _ _ _ _) })
@@ -48,8 +59,8 @@ least-requires c κs = search needs
 mul-block : tie.Need-mul-block Inv-loop μ-loop
 mul-block c = search needs
 
-sub-write-block : tie.Need-sub-write-block Inv-loop μ-loop
-sub-write-block c = search needs
+sub-mix : tie.Need-sub-mix Inv-loop μ-loop
+sub-mix c = search needs
 
 part-block-start : tie.Need-part-block-start Inv-loop μ-loop
 part-block-start c = search needs
@@ -57,19 +68,35 @@ part-block-start c = search needs
 part-block-end : tie.Need-part-block-end Inv-loop μ-loop
 part-block-end c = search needs
 
-mul-write-block : tie.Need-mul-write-block Inv-loop μ-loop
-mul-write-block c = search needs
+add-mix : tie.Need-add-mix Inv-loop μ-loop
+add-mix c =
+    let s = c .before .before .before .before .before in
+    record { fits = omega (arith, c .before .before .before .loop .inv .0, s .pre .1 .0, passing (s .args .rate) (s .args .sheet) (s .pre .0) .length) }
 
-add-write-block : tie.Need-add-write-block Inv-loop μ-loop
-add-write-block c = search needs
+mix-requires : tie.Need-mix-requires Inv-loop μ-loop
+mix-requires c κs = search needs
 
-add-write-block-2 : tie.Need-add-write-block-2 Inv-loop μ-loop
-add-write-block-2 c =
-    let s = c .before .before .before .before .before .before in
-    omega (arith, s .pre .1 .0, passing (s .args .rate) (s .args .sheet) (s .pre .0) .length)
+mul-write-samples : tie.Need-mul-write-samples Inv-loop μ-loop
+mul-write-samples c = search needs
 
-write-block-requires : tie.Need-write-block-requires Inv-loop μ-loop
-write-block-requires c κs = search needs
+add-write-samples : tie.Need-add-write-samples Inv-loop μ-loop
+add-write-samples c = search needs
+
+mul-write-samples-2 : tie.Need-mul-write-samples-2 Inv-loop μ-loop
+mul-write-samples-2 c = search needs
+
+sub-write-samples : tie.Need-sub-write-samples Inv-loop μ-loop
+sub-write-samples c = search needs
+
+part-write-samples-start : tie.Need-part-write-samples-start Inv-loop μ-loop
+part-write-samples-start c = search needs
+
+part-write-samples-end : tie.Need-part-write-samples-end Inv-loop μ-loop
+part-write-samples-end c =
+    omega (arith, kept (c .before .before .before), c .before .before .before .before .before .least .ensures)
+
+write-samples-requires : tie.Need-write-samples-requires Inv-loop μ-loop
+write-samples-requires c κs = search needs
 
 add-done : tie.Need-add-done Inv-loop μ-loop
 add-done c = search needs
@@ -79,16 +106,25 @@ loop-less c = search needs
 
 loop-again : tie.Need-loop-again Inv-loop μ-loop
 loop-again c =
-    let s = c .before .before .before .before .before .before .before .before .before .before in
+    let s = c .before .before .before .before .before .before .before .before .before .before .before .before .before in
     let a = s .args in
-    let l = c .before .before .before .before .before .before .before .before .loop in
-    let k = c .before .before .before .before .before .before .least in
-    let w = c .before .before .before .write-block in
+    let l = c .before .before .before .before .before .before .before .before .before .before .before .loop in
+    let k = c .before .before .before .before .before .before .before .before .before .least in
+    let m = c .before .before .before .before .before .before .before .mix in
+    let w = c .before .before .write-samples in
+    let n = k .result - 0 in
     let more : l .done + k .result ≤ a .n = omega (arith, k .ensures, l .inv .0) in
-    let part : length (midOf 0 (k .result - 0) (l .block)) ≡ k .result = length-take-le (k .result - 0) (l .block) (omega (arith, k .ensures, l .inv .1)) ∙ (let z : k .result - 0 ≡ k .result = omega arith in z) in
+    let part : length (take n (l .block)) ≡ k .result = length-take-le n (l .block) (omega (arith, k .ensures, l .inv .1)) ∙ (let z : n ≡ k .result = omega arith in z) in
+    let last : length (m .last .1 .0) ≡ n =
+    ap length (m .ensures) ∙ mix-all-length 0 (placed (a .rate) (a .sheet)) (a .start + l .done) (take n (l .block)) ∙ part ∙ (let z : k .result ≡ n = omega arith in z) in
+    let made = take-at (m .last .1 .0) (drop n (l .block)) n last ∙ m .ensures in
     let g = wrote-more (a .rate) (a .sheet) (rate-small s) (s .pre .0) (fitting s) (a .start) (a .at) (a .n) (a .buffer .now) (s .pre .1 .0) (s .pre .1 .1) (l .done) (k .result) (l .buffer) _
-    (midOf 0 (k .result - 0) (l .block)) _ (l .inv .3) part more refl (w .ensures .1) in
-    (more, front-kept (k .result - 0) (l .block) (w .last .1 .0) (w .ensures .0) ∙ l .inv .1, wrote-length (a .rate) (a .sheet) (rate-small s) (s .pre .0) (fitting s) (a .start) (a .at) (a .n) (a .buffer .now) (s .pre .1 .0) (s .pre .1 .1) _ _ g more, g)
+    (take n (l .block)) _ (l .inv .3) part more made (w .ensures .1) in (
+      more,
+      kept (c .before .before .before .before .before .before .before),
+      wrote-length (a .rate) (a .sheet) (rate-small s) (s .pre .0) (fitting s) (a .start) (a .at) (a .n) (a .buffer .now) (s .pre .1 .0) (s .pre .1 .1) _ _ g more,
+      g,
+    )
 
 same-length : tie.Need-same-length Inv-loop μ-loop
 same-length c = c .before .loop .inv .2
@@ -110,13 +146,18 @@ write-blocks-spec =
     sub-least
     least-requires
     mul-block
-    sub-write-block
+    sub-mix
     part-block-start
     part-block-end
-    mul-write-block
-    add-write-block
-    add-write-block-2
-    write-block-requires
+    add-mix
+    mix-requires
+    mul-write-samples
+    add-write-samples
+    mul-write-samples-2
+    sub-write-samples
+    part-write-samples-start
+    part-write-samples-end
+    write-samples-requires
     add-done
     loop-less
     loop-again
