@@ -2,6 +2,7 @@
 -- and the header with a window of all samples is the file of the sheet's samples, whose length field counts exactly those. Assumes nothing.
 use mathlib.Core.Path.{_≡_, refl, sym, ap, ap₂, _∙_}
 use mathlib.Core.Bool.{Bool, true, false}
+use mathlib.Core.Logic.{_⊎_, inl, inr, ⊎-elim}
 use mathlib.Core.List.{List, [], _∷_, _++_, append-assoc, append-nil}
 use Prim.Native.Nat.{ℕ, zero, suc, _+_, _-_, _*_, _/_, _≤_, _<_, min}
 use native.Mathlib.Nat.{zero-add}
@@ -18,16 +19,18 @@ use Rattle.wave.proofs.Published.{header-length, bytes-length}
 use Rattle.wave.proofs.Writes.{put-none, put-length, put-put, bytes-append}
 use Rattle.sheet.specs.declared.sheet.Sheet.{Sheet}
 use Rattle.sheet.specs.Parts.{lengthOf}
+use Rattle.sheet.specs.Refusals.{going, refused}
 use Rattle.handed.specs.Check.{isSheet}
 use Rattle.handed.proofs.Passing.{passing}
 use Rattle.evaluator.specs.Samples.{Placed, samplesFrom}
 use Rattle.evaluator.specs.Placing.{placed}
 use Rattle.evaluator.proofs.Samples.{samples-length, samples-append}
 use Rattle.engine.specs.Files.{headerIn, writtenOf, writtenIn}
+use Rattle.engine.specs.Stream.{countIn}
 use Rattle.engine.proofs.Answers.{header-taken, header-written, written-28, written-29, written-past, written-short, written-room, written-none, written-refused, written-put}
 
 -- how many bytes n samples have
-sample-bytes : (ps : List Placed) (k n : ℕ) → length (bytesOf (samplesFrom ps k n)) ≡ 2 * n
+pub sample-bytes : (ps : List Placed) (k n : ℕ) → length (bytesOf (samplesFrom ps k n)) ≡ 2 * n
 sample-bytes ps k n = bytes-length (samplesFrom ps k n) ∙ ap (λ (m : ℕ). 2 * m) (samples-length ps k n)
 
 -- ---- blocks
@@ -54,45 +57,56 @@ blocks-none ps b at start = put-none b at
 
 module _ (rate : ℕ) (s : Sheet) (e : isSheet rate s ≡ true) where
   -- the samples that exist and fit whole into a buffer from a place on
-  abbrev fitting : ℕ → List ℕ → ℕ → ℕ
+  abbrev pub fitting : ℕ → List ℕ → ℕ → ℕ
   fitting start buffer at = min (roomAt (length buffer) at) (lengthOf rate s - start)
 
-  -- what a window leaves, refused or not
-  pub written-is : (start : ℕ) (buffer : List ℕ) (at : ℕ) → writtenIn rate s start buffer at ≡ put buffer at (bytesOf (samplesFrom (placed rate s) start (fitting start buffer at)))
+  -- a window is taken, or it is refused and none fits
+  pub written-or : (start : ℕ) (buffer : List ℕ) (at : ℕ)
+      → (writtenOf rate s start (length buffer) at ≡ going (fitting start buffer at))
+      ⊎ ((n : ℕ) × (l : ℕ) × (writtenOf rate s start (length buffer) at ≡ refused n l) × (fitting start buffer at ≡ 0))
   unfolding roomAt
-  written-is start buffer at = late (leb start (lengthOf rate s)) refl
+  written-or start buffer at = late (leb start (lengthOf rate s)) refl
     where
-      ps : List Placed
-      ps = placed rate s
-
       room : ℕ
       room = length buffer
 
-      -- none fits, and nothing changes
-      nothing-fits : fitting start buffer at ≡ 0 → buffer ≡ put buffer at (bytesOf (samplesFrom ps start (fitting start buffer at)))
-      nothing-fits z = sym (ap (λ (n : ℕ). put buffer at (bytesOf (samplesFrom ps start n))) z ∙ blocks-none ps buffer at start)
+      Answered : Type 0
+      Answered =
+          (writtenOf rate s start (length buffer) at ≡ going (fitting start buffer at))
+          ⊎ ((n : ℕ) × (l : ℕ) × (writtenOf rate s start (length buffer) at ≡ refused n l) × (fitting start buffer at ≡ 0))
 
-      short : start ≤ lengthOf rate s → at ≤ room → (b : Bool) → ltb (room - at) 2 ≡ b → (d : Bool) → ltb start (lengthOf rate s) ≡ d
-          → writtenIn rate s start buffer at ≡ put buffer at (bytesOf (samplesFrom ps start (fitting start buffer at)))
+      short : start ≤ lengthOf rate s → at ≤ room → (b : Bool) → ltb (room - at) 2 ≡ b → (d : Bool) → ltb start (lengthOf rate s) ≡ d → Answered
       short l p true t true u =
           let f : room - at < 2 = ltb-true (room - at) 2 t in
           let m : start < lengthOf rate s = ltb-true start (lengthOf rate s) u in
-          written-refused rate s buffer start at 30 0 (written-short rate s buffer start at e l p m f) ∙ nothing-fits (omega arith)
-      short l p true t false u =
-          written-put rate s buffer start at (fitting start buffer at) (written-none rate s buffer start at e l p (ltb-false start (lengthOf rate s) u))
-      short l p false t d u = written-put rate s buffer start at (fitting start buffer at) (written-room rate s buffer start at e l p (ltb-false (room - at) 2 t))
+          inr (30, 0, written-short rate s buffer start at e l p m f, omega arith)
+      short l p true t false u = inl (written-none rate s buffer start at e l p (ltb-false start (lengthOf rate s) u))
+      short l p false t d u = inl (written-room rate s buffer start at e l p (ltb-false (room - at) 2 t))
 
-      past : start ≤ lengthOf rate s → (b : Bool) → leb at room ≡ b → writtenIn rate s start buffer at ≡ put buffer at (bytesOf (samplesFrom ps start (fitting start buffer at)))
+      past : start ≤ lengthOf rate s → (b : Bool) → leb at room ≡ b → Answered
       past l true t = short l (leb-true at room t) (ltb (room - at) 2) refl (ltb start (lengthOf rate s)) refl
       past l false t =
           let p : room < at = leb-false at room t in
-          written-refused rate s buffer start at 30 0 (written-past rate s buffer start at e l p) ∙ nothing-fits (omega arith)
+          inr (30, 0, written-past rate s buffer start at e l p, omega arith)
 
-      late : (b : Bool) → leb start (lengthOf rate s) ≡ b → writtenIn rate s start buffer at ≡ put buffer at (bytesOf (samplesFrom ps start (fitting start buffer at)))
+      late : (b : Bool) → leb start (lengthOf rate s) ≡ b → Answered
       late true t = past (leb-true start (lengthOf rate s) t) (leb at room) refl
       late false t =
           let l : lengthOf rate s < start = leb-false start (lengthOf rate s) t in
-          written-refused rate s buffer start at 29 0 (written-29 rate s buffer start at e l) ∙ nothing-fits (omega arith)
+          inr (29, 0, written-29 rate s buffer start at e l, omega arith)
+
+  -- what a window leaves, refused or not
+  pub written-is : (start : ℕ) (buffer : List ℕ) (at : ℕ) → writtenIn rate s start buffer at ≡ put buffer at (bytesOf (samplesFrom (placed rate s) start (fitting start buffer at)))
+  written-is start buffer at =
+      ⊎-elim (written-put rate s buffer start at (fitting start buffer at))
+      (λ w. written-refused rate s buffer start at (w .0) (w .1) (w .2)
+      ∙ sym (ap (λ (n : ℕ). put buffer at (bytesOf (samplesFrom (placed rate s) start n))) (w .3) ∙ blocks-none (placed rate s) buffer at start))
+      (written-or start buffer at)
+
+  -- and how many samples it has
+  pub written-count : (start : ℕ) (buffer : List ℕ) (at : ℕ) → countIn (writtenOf rate s start (length buffer) at) ≡ fitting start buffer at
+  unfolding countIn
+  written-count start buffer at = ⊎-elim (λ g. ap countIn g) (λ w. ap countIn (w .2) ∙ sym (w .3)) (written-or start buffer at)
 
 -- ---- one after the other
 

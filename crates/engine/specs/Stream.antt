@@ -1,0 +1,50 @@
+-- The whole file of a sheet, and how it is handed on in turn: first the header, then as many samples as a buffer holds, and so on to the end. Document 01:
+-- "WAV: 44 header bytes as in source document 000, then little-endian samples". Assumes nothing.
+use mathlib.Core.Bool.{Bool, true, false, _&&_}
+use mathlib.Core.List.{List, [], _++_}
+use Prim.Native.Nat.{ℕ, _-_, _*_, _/_, _%_}
+use lib.Dec.{leb, eqb}
+use lib.ListN.{length, take, drop}
+use Rattle.wave.specs.Form.{header, oldSize}
+use Rattle.wave.specs.Sample.{bytesOf}
+use Rattle.wave.specs.File.{put}
+use Rattle.sheet.specs.declared.sheet.Sheet.{Sheet}
+use Rattle.sheet.specs.Parts.{lengthOf}
+use Rattle.sheet.specs.Refusals.{Outcome, going, refused}
+use Rattle.handed.specs.Check.{isSheet}
+use Rattle.evaluator.specs.Samples.{samplesFrom}
+use Rattle.evaluator.specs.Placing.{placed}
+use Rattle.engine.specs.Files.{headerOf, writtenOf}
+
+-- the bytes of a sheet's file; a sheet that does not pass the check has none
+unfoldable pub fileOf : ℕ → Sheet → List ℕ
+unfolding isSheet header oldSize lengthOf bytesOf samplesFrom placed
+fileOf rate s =
+    elim (isSheet rate s) [
+      | true ↦ header (oldSize (lengthOf rate s)) rate (lengthOf rate s) ++ bytesOf (samplesFrom (placed rate s) 0 (lengthOf rate s))
+      | false ↦ []
+    ]
+
+-- how many there are, none where it was refused
+unfoldable pub countIn : Outcome ℕ → ℕ
+countIn (going n) = n
+countIn (refused k l) = 0
+
+-- a place where a sample begins
+unfoldable pub isSampleAt : ℕ → Bool
+isSampleAt at = leb 44 at && eqb ((at - 44) % 2) 0
+
+-- how many bytes of samples are handed on from place `at` of the file on, in a buffer of so many: whole samples
+unfoldable pub samplesNext : ℕ → Sheet → ℕ → ℕ → ℕ
+unfolding countIn isSampleAt writtenOf
+samplesNext rate s room at = elim (isSampleAt at) [ true ↦ 2 * countIn (writtenOf rate s ((at - 44) / 2) room 0) | false ↦ 0 ]
+
+-- how many bytes are handed on: at the file's start the header, behind it samples
+unfoldable pub nextOf : ℕ → Sheet → ℕ → ℕ → ℕ
+unfolding countIn headerOf samplesNext
+nextOf rate s room at = elim (eqb at 0) [ true ↦ countIn (headerOf rate s room) | false ↦ samplesNext rate s room at ]
+
+-- the buffer afterwards: those bytes of the file in front
+unfoldable pub nextIn : ℕ → Sheet → List ℕ → ℕ → List ℕ
+unfolding put nextOf fileOf
+nextIn rate s buffer at = put buffer 0 (take (nextOf rate s (length buffer) at) (drop at (fileOf rate s)))
