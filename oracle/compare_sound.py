@@ -4,13 +4,14 @@
 
 COUNT accepted sheets, hand-made and generated, each with windows of samples and of bytes cut at thrown
 places and sizes, empty and one-sample ones among them, with headers, and with each field of the sheet
-put out of range. The Rust has 01's sine, power and order of parts put in. It prints one line with the
-counts; a difference ends it with status 1 and names the sheet and the request.
+put out of range. The Rust has 01's sine, power and order of parts put in. The program `cue` is given the
+same sheets, whose files the Rust has, and as many others, whose refusals the model has. It prints one
+line with the counts; a difference ends it with status 1 and names the sheet and the request.
 """
 
 import sys
 from collections import Counter
-from itertools import accumulate
+from itertools import accumulate, islice
 
 sys.dont_write_bytecode = True
 
@@ -28,6 +29,7 @@ COUNT = 300
 LONGEST = 120_000
 SECONDS = 60
 PROGRAM = "ask_engine"
+CUE = "cue"
 FLOORS = {
     "sheets": 300,
     "sheets of several parts": 110,
@@ -38,6 +40,8 @@ FLOORS = {
     "refused 28": 2_300,
     "refused 29": 400,
     "refused 30": 2_000,
+    "files of cue": 300,
+    "refusals of cue": 300,
 }
 
 HAND_MADE = (
@@ -171,6 +175,22 @@ def answers_of(asked):
     return [found[end - a.size() : end] for end, (_, _, a) in zip(ends, asked)]
 
 
+def refused(seed, count):
+    """Sheets that are refused, each with the line that says so."""
+    told = ((text, model.answer(text)) for text in sheets(~seed, 40 * count))
+    return list(islice(((text, answer[0] + "\n") for text, answer in told if answer[0].startswith("refused")), count))
+
+
+def cue_differs(made, others):
+    """What the program `cue` answers otherwise, in words; nothing where all agrees."""
+    wanted = [(case.text, case.sound.wav) for case in made] + [(text, line.encode("ascii")) for text, line in others]
+    for text, answer in wanted:
+        found, trouble = programs.proved(CUE, text, SECONDS)
+        if trouble or found != answer:
+            return f"{CUE} {trouble or 'answers otherwise'} at the sheet {escape(text)}: {found[:60]!r}"
+    return ""
+
+
 def tally(made, asked, answers):
     """How much was compared, by kind and by refusal."""
     counts = Counter({"sheets": len(made), "sheets of several parts": sum(case.parts > 1 for case in made)})
@@ -192,7 +212,12 @@ def compare(seed, count, floors):
         case, a, wrong = min(faults, key=lambda fault: len(fault[0].text))
         print(f"sound: {len(faults)} of {len(asked)} answers differ; the smallest sheet: {escape(case.text)}\n{a}: {wrong}")
         return 1
-    counts = tally(made, asked, answers)
+    others = refused(seed, count)
+    wrong = cue_differs(made, others)
+    if wrong:
+        print(f"sound: {wrong}")
+        return 1
+    counts = tally(made, asked, answers) + Counter({"files of cue": len(made), "refusals of cue": len(others)})
     short = shortfall(counts, floors)
     if short:
         print(f"sound: {short}")
