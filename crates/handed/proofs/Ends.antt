@@ -5,14 +5,14 @@ use mathlib.Core.List.{List}
 use Prim.Native.Nat.{ℕ, suc, _+_, _-_, _≤_, _<_, min, max}
 use native.Mathlib.Numerals.{add-one}
 use native.Mathlib.Omega.{arith}
-use lib.ListN.{length, take, drop, getD, length-drop}
-use lib.Seq.{slice, slice-cons, slice-empty, length-take-le, drop-at, take-add, drop-drop}
+use lib.ListN.{length, drop, getD}
+use lib.Seq.{slice, slice-cons, slice-empty}
 use lib.Ieee.{Float, nan, binary32, add}
 use Rattle.tone.specs.Time.{lengthOf}
 use Rattle.sheet.specs.declared.note.Note.{Note}
 use Rattle.sheet.specs.Lengths.{soundingOf, samplesOf, endOf, longestOf}
 use Rattle.sheet.specs.Parts.{cut}
-use Rattle.handed.proofs.Cuts.{take-cut, drop-cut}
+use Rattle.handed.proofs.Cuts.{part-taken, part-left}
 
 module _ (rate : ℕ) (releases : List Float) (counts : List ℕ) (parts : ℕ) (notes : List Note) where
   -- the largest end of the parts from p on, whose notes begin at n
@@ -23,9 +23,6 @@ module _ (rate : ℕ) (releases : List Float) (counts : List ℕ) (parts : ℕ) 
   abbrev pub fromNote : ℕ → ℕ → ℕ → ℕ → ℕ
   fromNote p n stop start = max (endOf rate releases start (slice n stop notes)) (fromPart (p + 1) stop)
 
-  part-slice : (n c : ℕ) → n ≤ length notes → take c (drop n notes) ≡ slice n (n + c) notes
-  part-slice n c h = sym (ap (drop n) (take-add n c notes) ∙ drop-at (take n notes) (take c (drop n notes)) n (length-take-le n notes h))
-
   pub part-begins : (p n m stop : ℕ) → p < parts → parts ≤ length counts → n ≤ length notes → m ≡ min (getD counts p 0) (length notes - n) → stop ≡ n + m
       → fromPart p n ≡ fromNote p n stop 0
   unfolding cut longestOf
@@ -34,12 +31,9 @@ module _ (rate : ℕ) (releases : List Float) (counts : List ℕ) (parts : ℕ) 
       ap (λ (cs : List ℕ). longestOf rate releases (cut cs (drop n notes))) (slice-cons p parts counts 0 h l)
       ∙ ap₂
       (λ (x y : List Note). max (endOf rate releases 0 x) (longestOf rate releases (cut (slice (suc p) parts counts) y)))
-      (sym (take-cut (drop n notes) c (length notes - n) m (length-drop n notes) f) ∙ part-slice n m k)
-      (sym (drop-cut (drop n notes) c (length notes - n) m (length-drop n notes) f) ∙ drop-drop m n notes)
-      ∙ ap₂
-      (λ (s q : ℕ). max (endOf rate releases 0 (slice n s notes)) (longestOf rate releases (cut (slice q parts counts) (drop s notes))))
-      (sym e)
-      (sym (add-one p))
+      (part-taken notes n c m stop k f e)
+      (part-left notes n c m stop k f e)
+      ∙ ap (λ (q : ℕ). max (endOf rate releases 0 (slice n stop notes)) (longestOf rate releases (cut (slice q parts counts) (drop stop notes)))) (sym (add-one p))
 
   pub part-ends : (p n stop start : ℕ) → n ≡ stop → fromNote p n stop start ≡ fromPart (p + 1) n
   unfolding endOf

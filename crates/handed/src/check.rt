@@ -2,12 +2,13 @@
 
 ghost use mathlib.Core.Path.{_≡_};
 ghost use mathlib.Core.Bool.{true, false, _&&_};
-ghost use Prim.Native.Nat.{min};
+ghost use Prim.Native.Nat.{_≤_, min};
 ghost use lib.Dec.{ltb};
 ghost use lib.ListN.{take};
 ghost use lib.Ieee.{Float, nan};
 ghost use Rattle.ieee.specs.Times.{isTime};
-ghost use Rattle.sheet.specs.Lengths.{soundingOf, isCounted};
+ghost use Rattle.tone.specs.Time.{lengthOf as lengthIn};
+ghost use Rattle.sheet.specs.Lengths.{isCounted, samplesOf};
 ghost use Rattle.sheet.specs.Parts.{countsOf, total, instrumentsOf, lengthOf};
 ghost use Rattle.handed.specs.Check.{all, commandPasses, instrumentPasses, notePasses, checkedOf};
 use instrument::machine::Command;
@@ -25,6 +26,21 @@ pub struct Checked {
     pub passes: bool,
     // 0 where it does not pass.
     pub length: usize,
+}
+
+// A time in samples.
+struct Sounding {
+    // Whether one note may have so many.
+    within: bool,
+    samples: u64,
+}
+
+// What going through the notes found.
+struct Walked {
+    // Whether all of them pass.
+    played: bool,
+    // Where they end, if they do.
+    end: usize,
 }
 
 // Whether a command's feedback is within its limit.
@@ -77,24 +93,44 @@ fn instruments_pass(sheet: Sheet) -> bool
     true
 }
 
-// How many notes the parts of a sheet have: 2,049 where they have more than a sheet holds.
-fn notes_in(sheet: Sheet) -> usize
-    ensures { λ r. ⌜ r ≡ min (total (countsOf sheet)) 2049 ⌝ }
+// How many notes the first so many parts have: 2,049 where they have more than a sheet holds.
+fn notes_in(counts: [usize; 16], parts: usize) -> usize
+    ensures { λ r. ⌜ r ≡ min (total (take parts counts)) 2049 ⌝ }
 {
-    let most = least(sheet.parts, 16);
+    let most = least(parts, 16);
     let mut sum: usize = 0;
     let mut p: usize = 0;
     while p < most {
-        let count = sheet.counts[p];
+        let count = counts[p];
         sum += least(count, 2049 - sum);
         p += 1;
     }
     sum
 }
 
-// Whether a note passes on an instrument of that release, of so many instruments.
-fn note_passes(note: Note, instruments: usize, release: f32, rate: u32) -> bool
-    ensures { λ r. ⌜ r ≡ (ltb (note .instrument) instruments && (isTime (note .duration) && isCounted (soundingOf rate release note))) ⌝ }
+// Seconds counted in samples: whether one note may last so long, and how many samples it takes then, else 0.
+fn counted(seconds: f32, rate: u32) -> Sounding
+    ensures { λ r. ⌜ (r .within ≡ isCounted (lengthIn rate seconds)) × (r .samples ≡ samplesOf (lengthIn rate seconds)) × (r .samples ≤ 16777216) ⌝ }
+{
+    let uncounted = Sounding {
+        within: false,
+        samples: 0,
+    };
+    let length = sec_to_len(seconds, rate);
+    match length {
+        Length::Samples(n) => Sounding {
+            within: true,
+            samples: n,
+        },
+        Length::NotANumber => uncounted,
+        Length::Negative => uncounted,
+        Length::TooMany => uncounted,
+    }
+}
+
+// Whether a note passes, of so many instruments, and with its release counted or not.
+fn note_passes(note: Note, instruments: usize, within: bool) -> bool
+    ensures { λ r. ⌜ r ≡ (ltb (note .instrument) instruments && (isTime (note .duration) && within)) ⌝ }
 {
     let k = note.instrument;
     if k >= instruments {
@@ -104,13 +140,7 @@ fn note_passes(note: Note, instruments: usize, release: f32, rate: u32) -> bool
     if !(0.0 <= duration) {
         return false;
     }
-    let length = sec_to_len(duration + release, rate);
-    match length {
-        Length::Samples(_) => true,
-        Length::NotANumber => false,
-        Length::Negative => false,
-        Length::TooMany => false,
-    }
+    within
 }
 
 // The release of an instrument, if it is one of the sheet's, and else no number.
@@ -124,28 +154,11 @@ pub fn released(by: Instrument, known: bool) -> f32
     zero / zero
 }
 
-// Whether the first so many notes of a sheet pass.
-fn notes_pass(sheet: Sheet, count: usize, rate: u32) -> bool
-    ensures { λ r. ⌜ r ≡ all (notePasses rate (instrumentsOf sheet)) (take count (sheet .notes)) ⌝ }
-{
-    let instruments = least(sheet.instruments, 32);
-    let most = least(count, 2048);
-    let mut n: usize = 0;
-    while n < most {
-        let note = sheet.notes[n];
-        let k = note.instrument;
-        let release = released(sheet.table[least(k, 31)], k < instruments);
-        if !note_passes(note, instruments, release, rate) {
-            return false;
-        }
-        n += 1;
-    }
-    true
-}
-
-// The sheet's length in samples, the largest end of its notes. A note whose time has no number of samples takes none.
-fn longest(sheet: Sheet, rate: u32) -> usize
-    ensures { λ r. ⌜ r ≡ lengthOf rate sheet ⌝ }
+// Goes through the notes of a sheet once: whether all pass, and then the sheet's length in samples, the largest end of its notes.
+fn walk(sheet: Sheet, rate: u32) -> Walked
+    ensures { λ r.
+        ⌜ (r .played ≡ all (notePasses rate (instrumentsOf sheet)) (take (total (countsOf sheet)) (sheet .notes)))
+        × (r .played ≡ true → r .end ≡ lengthOf rate sheet) ⌝ }
 {
     let instruments = least(sheet.instruments, 32);
     let parts = least(sheet.parts, 16);
@@ -161,13 +174,25 @@ fn longest(sheet: Sheet, rate: u32) -> usize
             let k = note.instrument;
             let release = released(sheet.table[least(k, 31)], k < instruments);
             let duration = note.duration;
-            end = larger(end, start + samples(duration + release, rate));
-            start = start + samples(duration, rate);
+            let sounds = counted(duration + release, rate);
+            if !note_passes(note, instruments, sounds.within) {
+                return Walked {
+                    played: false,
+                    end: 0,
+                };
+            }
+            let heard = sounds.samples;
+            let lasts = samples(duration, rate);
+            end = larger(end, start + heard);
+            start += lasts;
             n += 1;
         }
         p += 1;
     }
-    end as usize
+    Walked {
+        played: true,
+        end: end as usize,
+    }
 }
 
 // Checks a sheet at a rate, and counts its samples.
@@ -184,17 +209,19 @@ pub fn check(sheet: Sheet, rate: u32) -> Checked
     if sheet.instruments > 32 {
         return refused;
     }
-    let count = notes_in(sheet);
+    let counts = sheet.counts;
+    let count = notes_in(counts, sheet.parts);
     if count > 2048 {
         return refused;
     }
     if !instruments_pass(sheet) {
         return refused;
     }
-    if !notes_pass(sheet, count, rate) {
+    let walked = walk(sheet, rate);
+    if !walked.played {
         return refused;
     }
-    let length = longest(sheet, rate);
+    let length = walked.end;
     if length > 2000000000 {
         return refused;
     }

@@ -13,18 +13,10 @@ pub fn samples(seconds: f32, rate: u32) -> u64
 {
     let length = sec_to_len(seconds, rate);
     match length {
-        Length::Samples(n) => {
-            return n;
-        }
-        Length::NotANumber => {
-            return 0;
-        }
-        Length::Negative => {
-            return 0;
-        }
-        Length::TooMany => {
-            return 0;
-        }
+        Length::Samples(n) => n,
+        Length::NotANumber => 0,
+        Length::Negative => 0,
+        Length::TooMany => 0,
     }
 }
 

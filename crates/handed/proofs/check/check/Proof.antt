@@ -1,29 +1,17 @@
 -- `check` makes the tests of the definition, one after the other; past the third its count is the sum of all counts. Assumes nothing.
-use mathlib.Core.Path.{_≡_, sym, ap, _∙_}
-use Prim.Native.Nat.{ℕ, _≤_}
+use mathlib.Core.Path.{sym, _∙_}
+use Prim.Native.Nat.{_≤_}
 use native.Mathlib.Omega.{arith}
-use lib.ListN.{take}
 use borrow.Author.Needs.{needs}
 use borrow.Author.Tests.{not-true, not-false}
-use Rattle.sheet.specs.Parts.{countsOf, total, instrumentsOf}
-use Rattle.handed.specs.Check.{all, notePasses}
+use Rattle.sheet.specs.Parts.{countsOf, total}
 use Rattle.handed.proofs.Checks.{parts-refused, instruments-refused, notes-refused, players-refused, played-refused, length-refused, passed}
 use Rattle.handed.proofs.check.check.Statement.{statement}
 use Rattle.handed.proofs.check.check.Tie as tie
 
 -- past the third test the notes are counted whole
-counted : (c : tie.Else3) → c .before .notes-in .result ≡ total (countsOf (c .before .before .before .before .before .before .args .sheet))
-counted c = omega (arith, c .before .notes-in .ensures, c .if3 .left)
-
-within : (c : tie.Else3) → total (countsOf (c .before .before .before .before .before .before .args .sheet)) ≤ 2048
-within c = omega (arith, counted c, c .if3 .left)
-
--- and so all of them are looked at
-looked : (c : tie.After-notes-pass) → let a = c .before .before .before .before .before .before .before .before .before .args in
-    c .notes-pass .result ≡ all (notePasses (a .rate) (instrumentsOf (a .sheet))) (take (total (countsOf (a .sheet))) (a .sheet .notes))
-looked c =
-    let a = c .before .before .before .before .before .before .before .before .before .args in
-    c .notes-pass .ensures ∙ ap (λ (k : ℕ). all (notePasses (a .rate) (instrumentsOf (a .sheet))) (take k (a .sheet .notes))) (counted (c .before .before .before))
+within : (c : tie.Else3) → total (countsOf (c .before .before .before .before .before .before .before .args .sheet)) ≤ 2048
+within c = omega (arith, c .before .notes-in .ensures, c .if3 .left)
 
 returns : tie.Need-returns
 returns c = parts-refused _ _ (c .if1 .taken)
@@ -36,7 +24,7 @@ notes-in-requires c κs = search needs
 
 returns-3 : tie.Need-returns-3
 returns-3 c =
-    notes-refused _ _ (c .before .before .before .before .if1 .left) (c .before .before .if2 .left) (omega (arith, c .before .notes-in .ensures, c .if3 .taken))
+    notes-refused _ _ (c .before .before .before .before .before .if1 .left) (c .before .before .before .if2 .left) (omega (arith, c .before .notes-in .ensures, c .if3 .taken))
 
 instruments-pass-requires : tie.Need-instruments-pass-requires
 instruments-pass-requires c κs = search needs
@@ -44,37 +32,36 @@ instruments-pass-requires c κs = search needs
 returns-4 : tie.Need-returns-4
 returns-4 c =
     let d = c .before .before in
-    players-refused _ _ (d .before .before .before .before .if1 .left) (d .before .before .if2 .left) (within d)
+    players-refused _ _ (d .before .before .before .before .before .if1 .left) (d .before .before .before .if2 .left) (within d)
     (sym (c .before .instruments-pass .ensures) ∙ not-true _ (c .if4 .taken))
 
-notes-pass-requires : tie.Need-notes-pass-requires
-notes-pass-requires c κs = search needs
+walk-requires : tie.Need-walk-requires
+walk-requires c κs = search needs
 
 returns-5 : tie.Need-returns-5
 returns-5 c =
-    let d = c .before .before .before .before in
-    played-refused _ _ (d .before .before .before .before .if1 .left) (d .before .before .if2 .left) (within d)
-    (sym (c .before .before .before .instruments-pass .ensures) ∙ not-false _ (c .before .before .if4 .left))
-    (sym (looked (c .before)) ∙ not-true _ (c .if5 .taken))
-
-longest-requires : tie.Need-longest-requires
-longest-requires c κs = search needs
+    let d = c .before .before .before .before .before in
+    played-refused _ _ (d .before .before .before .before .before .if1 .left) (d .before .before .before .if2 .left) (within d)
+    (sym (c .before .before .before .before .instruments-pass .ensures) ∙ not-false _ (c .before .before .before .if4 .left))
+    (sym (c .before .before .walk .ensures .0) ∙ not-true _ (c .if5 .taken))
 
 returns-6 : tie.Need-returns-6
 returns-6 c =
+    let all = not-false _ (c .before .if5 .left) in
+    let walk = c .before .before .before .walk in
     let d = c .before .before .before .before .before .before in
-    length-refused _ _ (d .before .before .before .before .if1 .left) (d .before .before .if2 .left) (within d)
+    length-refused _ _ (d .before .before .before .before .before .if1 .left) (d .before .before .before .if2 .left) (within d)
     (sym (c .before .before .before .before .before .instruments-pass .ensures) ∙ not-false _ (c .before .before .before .before .if4 .left))
-    (sym (looked (c .before .before .before)) ∙ not-false _ (c .before .before .if5 .left))
-    (omega (arith, c .before .longest .ensures, c .if6 .taken))
+    (sym (walk .ensures .0) ∙ all) (omega (arith, walk .ensures .1 all, c .if6 .taken))
 
 returns-7 : tie.Need-returns-7
 returns-7 c =
+    let all = not-false _ (c .before .if5 .left) in
+    let walk = c .before .before .before .walk in
     let d = c .before .before .before .before .before .before in
-    passed _ _ (d .before .before .before .before .if1 .left) (d .before .before .if2 .left) (within d)
+    passed _ _ (d .before .before .before .before .before .if1 .left) (d .before .before .before .if2 .left) (within d)
     (sym (c .before .before .before .before .before .instruments-pass .ensures) ∙ not-false _ (c .before .before .before .before .if4 .left))
-    (sym (looked (c .before .before .before)) ∙ not-false _ (c .before .before .if5 .left))
-    _ (c .before .longest .ensures) (c .if6 .left)
+    (sym (walk .ensures .0) ∙ all) _ (walk .ensures .1 all) (c .if6 .left)
 
 pub check-spec : {M : Type 1} → statement M
 check-spec =
@@ -86,8 +73,7 @@ check-spec =
     returns-3
     instruments-pass-requires
     returns-4
-    notes-pass-requires
+    walk-requires
     returns-5
-    longest-requires
     returns-6
     returns-7)

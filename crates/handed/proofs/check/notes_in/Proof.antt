@@ -1,39 +1,39 @@
 -- `notes_in` sums the counts and stops at 2,049: the sum so far with the counts still to come is the sum of all, cut at 2,049. Assumes nothing.
-use mathlib.Core.Path.{_≡_, sym, ap, _∙_}
+use mathlib.Core.Path.{_≡_, ap}
 use Prim.Native.Nat.{_+_, _-_, _≤_, min}
 use native.Mathlib.Omega.{arith}
-use lib.ListN.{length, length-map}
+use lib.ListN.{length, take}
 use lib.Seq.{slice}
 use borrow.Author.Needs.{needs}
-use Rattle.sheet.specs.Parts.{total, countsOf}
+use Rattle.sheet.specs.Parts.{total}
 use Rattle.handed.proofs.Cuts.{take-cut}
 use Rattle.handed.proofs.Totals.{total-next, total-end}
 use Rattle.handed.proofs.check.notes_in.Statement.{statement}
 use Rattle.handed.proofs.check.notes_in.Tie as tie
 
 abbrev Inv-loop : tie.InvT-loop
-Inv-loop sheet most sum₀ p₀ sum p = (p ≤ most) × (sum ≤ 2049) × (min (sum + total (slice p most (sheet .counts))) 2049 ≡ min (total (countsOf sheet)) 2049)
+Inv-loop parts counts most sum₀ p₀ sum p = (p ≤ most) × (sum ≤ 2049) × (min (sum + total (slice p most counts)) 2049 ≡ min (total (take parts counts)) 2049)
 
 abbrev μ-loop : tie.MeasureT-loop
-μ-loop sheet most sum₀ p₀ sum p = most - p
+μ-loop parts counts most sum₀ p₀ sum p = most - p
 
--- an owned sheet has 16 counts
-counts-16 : (c : tie.Start Inv-loop μ-loop) → length (c .args .t1 .counts) ≡ 16
-counts-16 c = sym (length-map (c .args .t1 .counts) _) ∙ c .good .0 .1 .1 .1 .0 .1 .0 .1
+-- an owned array has its 16 counts
+counts-16 : (c : tie.Start Inv-loop μ-loop) → length (c .args .t1) ≡ 16
+counts-16 c = c .good .0 .1 .0 .1
 
 least-requires : tie.Need-least-requires Inv-loop μ-loop
 least-requires c κs = search needs
 
 loop-holds : tie.Need-loop-holds Inv-loop μ-loop
 loop-holds c =
-    let s = c .before .args .t1 in
-    (omega arith, omega arith, omega (arith, ap total (take-cut (s .counts) (s .parts) 16 (c .least .result) (counts-16 (c .before)) (c .least .ensures))))
+    let a = c .before .args in
+    (omega arith, omega arith, omega (arith, ap total (take-cut (a .t1) (a .parts) 16 (c .least .result) (counts-16 (c .before)) (c .least .ensures))))
 
 mul-count : tie.Need-mul-count Inv-loop μ-loop
 mul-count c = omega arith
 
-element-copy-out-count : tie.Need-element-copy-out-count Inv-loop μ-loop
-element-copy-out-count c = omega arith
+array-read-count : tie.Need-array-read-count Inv-loop μ-loop
+array-read-count c = omega arith
 
 sub-least : tie.Need-sub-least Inv-loop μ-loop
 sub-least c = omega arith
@@ -52,17 +52,17 @@ loop-less c = omega arith
 
 loop-again : tie.Need-loop-again Inv-loop μ-loop
 loop-again c =
-    let s = c .before .before .before .before .before in
-    let most = c .before .before .before .before .least in
-    let l = c .before .before .before .loop in
-    let next = total-next (s .args .t1 .counts) (most .result) (l .p) (c .before .before .loop-test .taken) (omega (arith, most .ensures, counts-16 s)) in
+    let s = c .before .before .before .before in
+    let most = c .before .before .before .least in
+    let l = c .before .before .loop in
+    let next = total-next (s .args .t1) (most .result) (l .p) (c .before .loop-test .taken) (omega (arith, most .ensures, counts-16 s)) in
     (omega arith, omega (arith, c .least2 .ensures, l .inv .1), omega (arith, c .least2 .ensures, l .inv .1, l .inv .2, next))
 
 returns : tie.Need-returns Inv-loop μ-loop
 returns c =
-    let s = c .before .before .before .args .t1 in
     let l = c .before .loop in
-    omega (arith, l .inv .1, l .inv .2, total-end (s .counts) (c .before .before .least .result) (l .p) (omega (arith, l .inv .0, c .loop-test .left)))
+    let a = c .before .before .before .args in
+    omega (arith, l .inv .1, l .inv .2, total-end (a .t1) (c .before .before .least .result) (l .p) (omega (arith, l .inv .0, c .loop-test .left)))
 
 pub notes-in-spec : {M : Type 1} → statement M
 notes-in-spec =
@@ -73,7 +73,7 @@ notes-in-spec =
     least-requires
     loop-holds
     mul-count
-    element-copy-out-count
+    array-read-count
     sub-least
     least-requires-2
     add-sum

@@ -13,28 +13,28 @@ sec-to-len-requires c κs = search needs
 enum-known-length : tie.Need-enum-known-length
 enum-known-length c = search needs
 
+enum-told : tie.Need-enum-told
+enum-told c = search needs
+
+enum-told-2 : tie.Need-enum-told-2
+enum-told-2 c = search needs
+
+enum-told-3 : tie.Need-enum-told-3
+enum-told-3 c = search needs
+
 returns : tie.Need-returns
 unfolding samplesOf
 returns c =
     let e = sym (c .before .before .before .sec-to-len .ensures) ∙ c .before .length .given .1 in
     (sym (ap samplesOf e), length-most _ _ _ e)
 
-enum-told : tie.Need-enum-told
-enum-told c = search needs
-
 returns-2 : tie.Need-returns-2
 unfolding samplesOf
 returns-2 c = (sym (ap samplesOf (sym (c .before .before .sec-to-len .ensures) ∙ c .enum-told .given .1)), omega arith)
 
-enum-told-2 : tie.Need-enum-told-2
-enum-told-2 c = search needs
-
 returns-3 : tie.Need-returns-3
 unfolding samplesOf
 returns-3 c = (sym (ap samplesOf (sym (c .before .before .sec-to-len .ensures) ∙ c .enum-told2 .given .1)), omega arith)
-
-enum-told-3 : tie.Need-enum-told-3
-enum-told-3 c = search needs
 
 returns-4 : tie.Need-returns-4
 unfolding samplesOf
@@ -46,10 +46,10 @@ samples-spec =
     (tie.spec
     sec-to-len-requires
     enum-known-length
-    returns
     enum-told
-    returns-2
     enum-told-2
-    returns-3
     enum-told-3
+    returns
+    returns-2
+    returns-3
     returns-4)
