@@ -11,7 +11,7 @@ use Rattle.wave.specs.Sample.{bytesOf}
 use Rattle.wave.specs.File.{put, roomAt}
 use Rattle.sheet.specs.declared.sheet.Sheet.{Sheet}
 use Rattle.sheet.specs.Parts.{lengthOf}
-use Rattle.sheet.specs.Refusals.{Outcome, going, refused, _>>_, refuse_on_unless_, refuse_on_if_}
+use Rattle.sheet.specs.Refusals.{going, refused, _>>_, refuse_on_unless_, refuse_on_if_}
 use Rattle.handed.specs.Check.{isSheet}
 use Rattle.evaluator.specs.Samples.{samplesFrom}
 use Rattle.evaluator.specs.Placing.{placed}

@@ -1,7 +1,7 @@
 -- What is handed on is the file: the header at its start, and behind it the bytes of the samples that a window writes. Assumes nothing.
-use mathlib.Core.Path.{_≡_, refl, sym, ap, ap₂, _∙_}
+use mathlib.Core.Path.{_≡_, refl, sym, ap, _∙_}
 use mathlib.Core.Bool.{Bool, true, false}
-use mathlib.Core.List.{List, [], _++_, append-assoc}
+use mathlib.Core.List.{List, _++_, append-assoc}
 use Prim.Native.Nat.{ℕ, _+_, _-_, _*_, _/_, _%_, _≤_, _<_, min}
 use native.Mathlib.Omega.{arith}
 use lib.Dec.{leb, eqb}
@@ -18,7 +18,7 @@ use Rattle.sheet.specs.Parts.{lengthOf}
 use Rattle.sheet.specs.Refusals.{refused}
 use Rattle.handed.specs.Check.{isSheet}
 use Rattle.handed.proofs.Passing.{passing}
-use Rattle.evaluator.specs.Samples.{Placed, samplesFrom}
+use Rattle.evaluator.specs.Samples.{samplesFrom}
 use Rattle.evaluator.specs.Placing.{placed}
 use Rattle.evaluator.proofs.Samples.{samples-append}
 use Rattle.engine.specs.Files.{headerOf, headerIn, writtenOf, writtenIn}

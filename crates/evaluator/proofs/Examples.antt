@@ -1,7 +1,7 @@
 -- Worked samples: -0.0 that is stored first stays -0.0, a second value is added to it, and a window has the samples that exist and then what stood there.
 -- Assumes nothing.
 use mathlib.Core.Path.{_≡_, refl}
-use mathlib.Core.List.{List, [], _∷_}
+use mathlib.Core.List.{[], _∷_}
 use Prim.Native.Nat.{ℕ}
 use lib.Ieee.{Float, binary32, add}
 use Rattle.ieee.specs.Constants.{minusZero, one}

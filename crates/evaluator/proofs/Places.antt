@@ -1,8 +1,8 @@
 -- The notes of a sheet in their places. Their largest end is the sheet's length; and where each takes no more samples than it sounds, each starts at or
 -- before the largest end so far, since a part's next note starts within the one before it. Assumes nothing.
-use mathlib.Core.Path.{_≡_, refl, sym, ap, subst, _∙_}
+use mathlib.Core.Path.{_≡_, sym, ap, subst, _∙_}
 use mathlib.Core.List.{List, [], _∷_, _++_}
-use Prim.Native.Nat.{ℕ, zero, suc, _+_, _≤_, _<_, max}
+use Prim.Native.Nat.{ℕ, suc, _+_, _≤_, _<_, max}
 use native.Mathlib.Omega.{arith}
 use lib.ListN.{length, take, drop, getD, length-take, length-drop, List·getD-map}
 use lib.Seq.{getD-take, getD-drop}

@@ -1,24 +1,24 @@
 -- Mixing the notes of a sheet that passes the check writes its samples. Each note that passes takes no more samples than it sounds, since its duration
 -- and release are times and its duration is an f32; so the front law holds of the sheet. Assumes nothing.
-use mathlib.Core.Path.{_≡_, refl, sym, ap, subst, _∙_}
+use mathlib.Core.Path.{_≡_, sym, ap, subst, _∙_}
 use mathlib.Core.Bool.{true}
 use mathlib.Core.List.{List}
 use Prim.Native.Nat.{ℕ, _^_, _≤_, _<_}
 use native.Mathlib.Omega.{arith}
 use lib.Dec.{T}
-use lib.ListN.{length, take, getD, length-take, List·getD-map}
+use lib.ListN.{length, take, getD, length-take}
 use lib.Seq.{getD-take}
 use lib.Ieee.{Float, nan, binary32, fits}
 use Rattle.instrument.specs.declared.machine.Instrument.{Instrument}
 use Rattle.sheet.specs.declared.note.Note.{Note}
 use Rattle.sheet.specs.declared.sheet.Sheet.{Sheet}
-use Rattle.sheet.specs.Lengths.{soundingOf, samplesOf}
+use Rattle.sheet.specs.Lengths.{soundingOf}
 use Rattle.sheet.specs.Parts.{countsOf, total, instrumentsOf, releasesOf, lengthOf}
 use Rattle.sheet.proofs.Lengths.{takes-within}
 use Rattle.handed.specs.Check.{notePasses, isSheet}
 use Rattle.handed.proofs.Alls.{all-at}
-use Rattle.handed.proofs.Passing.{Passing, passing, Plays, plays}
-use Rattle.evaluator.specs.Placing.{nobody, playerOf, soundsOf, takesOf, placed}
+use Rattle.handed.proofs.Passing.{passing, Plays, plays}
+use Rattle.evaluator.specs.Placing.{takesOf, placed}
 use Rattle.evaluator.specs.Mixing.{mixAll}
 use Rattle.evaluator.proofs.Fronts.{Joined, mix-window}
 use Rattle.evaluator.proofs.Places.{Longer, sounds-same, sheet-end, sheet-joined}

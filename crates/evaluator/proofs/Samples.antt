@@ -1,6 +1,6 @@
 -- Samples one after the other: how many there are, and that they can be cut anywhere. Assumes nothing.
 use mathlib.Core.Path.{_≡_, refl, sym, ap, _∙_}
-use mathlib.Core.List.{List, [], _∷_, _++_}
+use mathlib.Core.List.{List, _∷_, _++_}
 use Prim.Native.Nat.{ℕ, zero, suc, _+_}
 use native.Mathlib.Nat.{add-zero, zero-add, add-suc, suc-add}
 use lib.ListN.{length}

@@ -12,7 +12,7 @@ use lib.Ieee.{Float}
 use borrow.Author.Tests.{le-leb, lt-leb, leb-true, leb-false, ltb-true, ltb-false}
 use Rattle.sheet.specs.declared.sheet.Sheet.{Sheet}
 use Rattle.sheet.specs.Parts.{lengthOf}
-use Rattle.sheet.specs.Refusals.{Outcome, going, refused, _>>_, refuse_on_unless_}
+use Rattle.sheet.specs.Refusals.{going, refused, _>>_, refuse_on_unless_}
 use Rattle.handed.specs.Check.{isSheet}
 use Rattle.evaluator.specs.Samples.{Placed, sampleAt, valueOf, samplesFrom}
 use Rattle.evaluator.specs.Placing.{placed}

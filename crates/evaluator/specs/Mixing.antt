@@ -2,7 +2,7 @@
 -- it and stored from there on. For a sheet that passes the check this is the plain meaning (`Samples`): `proofs/Fronts.antt`. Assumes nothing.
 use mathlib.Core.Bool.{true, false}
 use mathlib.Core.List.{List, [], _∷_}
-use Prim.Native.Nat.{ℕ, suc, _+_, _-_, max}
+use Prim.Native.Nat.{ℕ, suc, _-_, max}
 use lib.Ieee.{Float}
 use Rattle.instrument.specs.Fill.{mixed}
 use Rattle.evaluator.specs.Samples.{Placed, endOf, soundsAt}

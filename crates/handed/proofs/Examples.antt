@@ -2,14 +2,13 @@
 -- does not. Assumes nothing.
 use mathlib.Core.Path.{_≡_, refl}
 use mathlib.Core.Bool.{true, false}
-use mathlib.Core.List.{List, [], _∷_}
+use mathlib.Core.List.{[], _∷_}
 use Prim.Native.Nat.{ℕ}
 use lib.IntN.{pos}
-use lib.Ieee.{Float, nan, fin, binary32, add, mul, ofInt, round}
+use lib.Ieee.{Float, nan, fin, add, mul, ofInt, round}
 use Rattle.ieee.specs.Constants.{plusZero, minusZero, one}
 use Rattle.tone.specs.Time.{countOf, lengthOf}
 use Rattle.instrument.specs.declared.machine.Command.the-variants as Command
-use Rattle.instrument.specs.declared.machine.Slot.{Slot}
 use Rattle.instrument.specs.declared.machine.Instrument.{Instrument}
 use Rattle.sheet.specs.declared.note.Note.{Note}
 use Rattle.sheet.specs.Lengths.{soundingOf, isCounted}

@@ -1,7 +1,7 @@
 -- Times: floats that are neither a NaN nor below zero. -0.0 is one, so `nonnegative` is too narrow for a sheet that is handed in. With the sign of its
 -- zero cleared a time is nonnegative, and products, sums and the order do not see the difference. Assumes nothing.
 use mathlib.Core.Path.{_≡_, refl, sym, ap, ap₂, subst, _∙_}
-use mathlib.Core.Bool.{Bool, true, false, not, _&&_, _||_, cond}
+use mathlib.Core.Bool.{Bool, true, false, _&&_, _||_, cond}
 use Prim.Native.Nat.{ℕ, zero, suc, _+_, _-_, _*_, _<_}
 use native.Mathlib.Nat.{mul-pos}
 use native.Mathlib.Omega.{arith}

@@ -1,6 +1,6 @@
 -- `write_header` asks 28 and 30 in their order; a sheet that passes has so few samples that the size field holds them. Assumes nothing.
 use mathlib.Core.Path.{_≡_, sym, ap, subst, _∙_}
-use mathlib.Core.Bool.{Bool, true, false}
+use mathlib.Core.Bool.{true, false}
 use Prim.Native.Nat.{ℕ, _+_, _*_, _≤_}
 use native.Mathlib.Omega.{arith}
 use borrow.Author.Needs.{needs}
@@ -9,7 +9,6 @@ use lib.ListN.{length}
 use Rattle.wave.specs.Form.{header, oldSize}
 use Rattle.wave.specs.File.{put}
 use Rattle.wave.proofs.Writes.{header-put}
-use Rattle.sheet.specs.Parts.{lengthOf}
 use Rattle.sheet.specs.Answers.{answered}
 use Rattle.handed.specs.Check.{isSheet}
 use Rattle.handed.proofs.Answers.{checked-passes, checked-length}

@@ -1,19 +1,17 @@
 -- `write_window` asks 28, 29 and 30 in their order; what is written then are samples that exist and fit. Assumes nothing.
-use mathlib.Core.Path.{_≡_, sym, ap, ap₂, subst, _∙_}
-use mathlib.Core.Bool.{Bool, true, false}
+use mathlib.Core.Path.{_≡_, sym, ap, subst, _∙_}
+use mathlib.Core.Bool.{true, false}
 use Prim.Native.Nat.{ℕ, _+_, _-_, _*_, _/_, _≤_, _<_, min}
 use native.Mathlib.Omega.{arith}
 use borrow.Author.Needs.{needs}
 use borrow.Author.Tests.{not-true, not-false}
 use lib.ListN.{length}
-use Rattle.wave.specs.Sample.{bytesOf}
 use Rattle.wave.specs.File.{put, roomAt}
 use Rattle.sheet.specs.Parts.{lengthOf}
 use Rattle.sheet.specs.Refusals.{going}
 use Rattle.sheet.specs.Answers.{answered}
 use Rattle.handed.specs.Check.{isSheet}
 use Rattle.handed.proofs.Answers.{checked-passes, checked-length}
-use Rattle.evaluator.specs.Samples.{samplesFrom}
 use Rattle.evaluator.specs.Placing.{placed}
 use Rattle.engine.proofs.Answers.{written-28, written-29, written-past, written-short, written-room, written-none, written-refused, written-put}
 use Rattle.engine.proofs.Files.{blocks-none}

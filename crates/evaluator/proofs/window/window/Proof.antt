@@ -1,9 +1,8 @@
 -- `window` asks 28 and 29 in their order; then what mixing leaves is the window, by the front law. That each duration is an f32 is told by owning the
 -- sheet. Assumes nothing.
 use mathlib.Core.Path.{_≡_, sym, ap, ap₂, subst, _∙_}
-use mathlib.Core.Bool.{Bool, true, false}
+use mathlib.Core.Bool.{true, false}
 use Prim.Native.Nat.{ℕ, _-_, _^_, _≤_, _<_, min}
-use native.Mathlib.Omega.{arith}
 use borrow.Author.Needs.{needs}
 use borrow.Author.Tests.{not-true, not-false}
 use lib.Dec.{T}
