@@ -2,17 +2,17 @@
 -- Assumes nothing.
 use mathlib.Core.Path.{_≡_, refl, sym, ap, ap₂, subst, _∙_}
 use mathlib.Core.List.{List, [], _∷_, _++_}
-use Prim.Native.Nat.{ℕ, zero, suc, _+_, _-_, _≤_, _<_, min, max}
+use Prim.Native.Nat.{ℕ, suc, _+_, _-_, _≤_, _<_, min, max}
 use native.Mathlib.Numerals.{add-one}
-use native.Mathlib.Nat.{zero-min, min-zero, suc-min-suc}
-use lib.ListN.{length, take, drop, getD, length-drop}
-use lib.Seq.{slice, slice-cons, slice-empty, length-take-le, drop-at, take-add, drop-drop}
+use lib.ListN.{length, take, drop, getD}
+use lib.Seq.{slice, slice-cons, slice-empty}
 use lib.Ieee.{Float}
 use Rattle.instrument.specs.declared.machine.Instrument.{Instrument}
 use Rattle.sheet.specs.declared.note.Note.{Note}
 use Rattle.sheet.specs.declared.sheet.Sheet.{Sheet}
 use Rattle.sheet.specs.Parts.{cut, partsOf, instrumentsOf}
 use Rattle.sheet.proofs.Basics.{take-least}
+use Rattle.handed.proofs.Cuts.{part-taken, part-left}
 use Rattle.evaluator.specs.Samples.{Placed, endOf}
 use Rattle.evaluator.specs.Placing.{playerOf, soundsOf, takesOf, placedNote, placedFrom, placedParts, placed}
 use Rattle.evaluator.specs.Mixing.{mixOne, mixAll}
@@ -58,11 +58,6 @@ module _ {from : ℕ} {all : List Placed} {covered₀ : ℕ} {out₀ : List Floa
 
 -- ---- what is still to come
 
-drop-least : {A : Type 0} (m : ℕ) (xs : List A) → drop (min m (length xs)) xs ≡ drop m xs
-drop-least zero xs = ap (λ (k : ℕ). drop k xs) (zero-min (length xs))
-drop-least (suc m) [] = ap {B = List _} (λ (k : ℕ). drop k []) (min-zero (suc m))
-drop-least (suc m) (x ∷ xs) = ap (λ (k : ℕ). drop k (x ∷ xs)) (suc-min-suc m (length xs)) ∙ drop-least m xs
-
 module _ (rate : ℕ) (is : List Instrument) (counts : List ℕ) (parts : ℕ) (notes : List Note) where
   -- from part p on, whose first note is note n
   abbrev pub atPart : ℕ → ℕ → List Placed
@@ -72,24 +67,17 @@ module _ (rate : ℕ) (is : List Instrument) (counts : List ℕ) (parts : ℕ) (
   abbrev pub atNote : ℕ → ℕ → ℕ → ℕ → List Placed
   atNote p n stop at = placedFrom rate is at (slice n stop notes) ++ atPart (p + 1) stop
 
-  part-slice : (n c : ℕ) → n ≤ length notes → take c (drop n notes) ≡ slice n (n + c) notes
-  part-slice n c h = sym (ap (drop n) (take-add n c notes) ∙ drop-at (take n notes) (take c (drop n notes)) n (length-take-le n notes h))
-
-  fewer : (n c stop : ℕ) → stop ≡ n + min c (length notes - n) → n + min c (length (drop n notes)) ≡ stop
-  fewer n c stop e = ap (λ (l : ℕ). n + min c l) (length-drop n notes) ∙ sym e
-
   -- a part begins: it has as many notes as it counts, or all that are left
   pub part-begins : (p n stop : ℕ) → p < parts → parts ≤ length counts → n ≤ length notes → stop ≡ n + min (getD counts p 0) (length notes - n)
       → atPart p n ≡ atNote p n stop 0
   unfolding placedParts cut
   part-begins p n stop h l m e =
       let c = getD counts p 0 in
-      let d = min c (length (drop n notes)) in
+      let d = min c (length notes - n) in
       ap (λ (cs : List ℕ). placedParts rate is (cut cs (drop n notes))) (slice-cons p parts counts 0 h l)
-      ∙ ap₂ (λ (x y : List Note). placedFrom rate is 0 x ++ placedParts rate is (cut (slice (suc p) parts counts) y))
-      (sym (take-least c (drop n notes)) ∙ part-slice n d m)
-      (sym (drop-least c (drop n notes)) ∙ drop-drop d n notes)
-      ∙ ap₂ (λ (s q : ℕ). placedFrom rate is 0 (slice n s notes) ++ placedParts rate is (cut (slice q parts counts) (drop s notes))) (fewer n c stop e) (sym (add-one p))
+      ∙ ap₂ (λ (x y : List Note). placedFrom rate is 0 x ++ placedParts rate is (cut (slice (suc p) parts counts) y)) (part-taken notes n c d stop m refl e)
+      (part-left notes n c d stop m refl e)
+      ∙ ap (λ (q : ℕ). placedFrom rate is 0 (slice n stop notes) ++ placedParts rate is (cut (slice q parts counts) (drop stop notes))) (sym (add-one p))
 
   -- and ends
   pub part-ends : (p n stop at : ℕ) → n ≡ stop → atNote p n stop at ≡ atPart (p + 1) n

@@ -1,18 +1,12 @@
 -- A number cut to a list's length takes the same elements and leaves the same, and so does a part that begins within it. Assumes nothing.
 use mathlib.Core.Path.{_≡_, sym, ap, _∙_}
-use mathlib.Core.List.{List, [], _∷_}
-use Prim.Native.Nat.{ℕ, zero, suc, _+_, _-_, _≤_, min}
-use native.Mathlib.Nat.{zero-min, min-zero, suc-min-suc}
+use mathlib.Core.List.{List}
+use Prim.Native.Nat.{ℕ, _+_, _-_, _≤_, min}
 use lib.ListN.{length, take, drop, length-drop}
 use lib.Seq.{slice, length-take-le, drop-at, take-add, drop-drop}
-use Rattle.sheet.proofs.Basics.{take-least}
+use Rattle.sheet.proofs.Basics.{take-least, drop-least}
 
 module _ {A : Type 0} where
-  drop-least : (m : ℕ) (xs : List A) → drop (min m (length xs)) xs ≡ drop m xs
-  drop-least zero xs = ap (λ (k : ℕ). drop k xs) (zero-min (length xs))
-  drop-least (suc m) [] = ap {B = List A} (λ (k : ℕ). drop k []) (min-zero (suc m))
-  drop-least (suc m) (x ∷ xs) = ap (λ (k : ℕ). drop k (x ∷ xs)) (suc-min-suc m (length xs)) ∙ drop-least m xs
-
   pub take-cut : (xs : List A) (m n k : ℕ) → length xs ≡ n → k ≡ min m n → take k xs ≡ take m xs
   take-cut xs m n k l e = ap (λ (j : ℕ). take j xs) (e ∙ ap (min m) (sym l)) ∙ take-least m xs
 

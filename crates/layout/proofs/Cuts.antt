@@ -1,19 +1,12 @@
 -- Regions of a column: the part that code lends of it, how long a region is, and where in the column its elements stand. Assumes nothing.
 use mathlib.Core.Path.{_≡_, ap, ap₂, _∙_}
-use mathlib.Core.List.{List, [], _∷_}
-use Prim.Native.Nat.{ℕ, zero, suc, _+_, _-_, _*_, _<_, min}
-use native.Mathlib.Nat.{zero-min, min-zero, suc-min-suc}
+use mathlib.Core.List.{List}
+use Prim.Native.Nat.{ℕ, _+_, _-_, _*_, _<_, min}
 use native.Mathlib.Omega.{arith}
 use lib.ListN.{length, take, drop, getD, length-take, length-drop}
 use lib.Seq.{getD-take, getD-drop}
-use Rattle.sheet.proofs.Basics.{take-least}
+use Rattle.sheet.proofs.Basics.{take-least, drop-least}
 use Rattle.layout.specs.Regions.{region}
-
--- a place past the end may be cut there
-drop-least : {A : Type 0} (m : ℕ) (xs : List A) → drop (min m (length xs)) xs ≡ drop m xs
-drop-least zero xs = ap (λ (k : ℕ). drop k xs) (zero-min (length xs))
-drop-least (suc m) [] = ap {B = List _} (λ (k : ℕ). drop k []) (min-zero (suc m))
-drop-least (suc m) (x ∷ xs) = ap (λ (k : ℕ). drop k (x ∷ xs)) (suc-min-suc m (length xs)) ∙ drop-least m xs
 
 -- a region is what stands between two places that are cut at the end
 pub region-cut : {A : Type 0} (w k : ℕ) (xs : List A) (from to : ℕ) → from ≡ min (w * k) (length xs) → to ≡ min (w * k + w) (length xs)

@@ -5,7 +5,7 @@ use mathlib.Core.List.{List, [], _∷_}
 use Prim.Native.Nat.{ℕ, zero, suc, min}
 use native.Mathlib.Nat.{zero-min, min-zero, suc-min-suc}
 use native.Mathlib.Omega.{arith}
-use lib.ListN.{length, take}
+use lib.ListN.{length, take, drop}
 
 -- no test both fails and passes
 pub false-true : {A : Type 0} → false ≡ true → A
@@ -22,3 +22,9 @@ take-least zero xs = ap (λ (k : ℕ). take k xs) (zero-min (length xs))
 take-least (suc m) [] = ap {B = List _} (λ (k : ℕ). take k []) (min-zero (suc m))
 take-least (suc m) (x ∷ xs) =
     ap (λ (k : ℕ). take k (x ∷ xs)) (suc-min-suc m (length xs)) ∙ ap {B = List _} (λ r. x ∷ r) (take-least m xs)
+
+-- and what is left behind them
+pub drop-least : {A : Type 0} (m : ℕ) (xs : List A) → drop (min m (length xs)) xs ≡ drop m xs
+drop-least zero xs = ap (λ (k : ℕ). drop k xs) (zero-min (length xs))
+drop-least (suc m) [] = ap {B = List _} (λ (k : ℕ). drop k []) (min-zero (suc m))
+drop-least (suc m) (x ∷ xs) = ap (λ (k : ℕ). drop k (x ∷ xs)) (suc-min-suc m (length xs)) ∙ drop-least m xs
