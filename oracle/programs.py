@@ -57,6 +57,21 @@ def proved(name, requests, seconds):
     return answers, f"{trouble}: {said}" if trouble and said else trouble
 
 
+def check_kept(crate, texts, command):
+    """0 if a crate keeps these texts, by file name; else it raises Broken and names the command that writes them."""
+    for name, text in texts.items():
+        if (ROOT / "crates" / crate / name).read_bytes() != text:
+            raise Broken(f"crates/{crate}/{name} is not what oracle/{command} writes")
+    return 0
+
+
+def write_kept(crate, texts, command):
+    for name, text in texts.items():
+        (ROOT / "crates" / crate / name).write_bytes(text)
+        print(f"{command}: {name} {len(text)} bytes")
+    return 0
+
+
 def batch(name, sheets, seconds=120):
     """A program's answers to sheets, each a list of lines as the mode `notes` prints them."""
     text = "".join(escape(sheet) + "\n" for sheet in sheets).encode("ascii")

@@ -15,7 +15,7 @@ import reading
 import store
 from escaped import unescape
 
-CRATE = programs.ROOT / "crates" / "ask_reading"
+CRATE, COMMAND = "ask_reading", "store-reading"
 
 
 def stored_lines(name):
@@ -48,18 +48,12 @@ def texts():
 
 def check():
     """0 if the crate keeps what would be written now; else it raises Broken."""
-    for name, text in texts().items():
-        if (CRATE / name).read_bytes() != text:
-            raise programs.Broken(f"crates/ask_reading/{name} is not what oracle/store-reading writes")
-    return 0
+    return programs.check_kept(CRATE, texts(), COMMAND)
 
 
 def write():
-    for name, text in texts().items():
-        (CRATE / name).write_bytes(text)
-        print(f"store-reading: {name} {len(text)} bytes")
-    return 0
+    return programs.write_kept(CRATE, texts(), COMMAND)
 
 
 if __name__ == "__main__":
-    sys.exit(programs.status_of("store-reading", write))
+    sys.exit(programs.status_of(COMMAND, write))

@@ -12,7 +12,7 @@ sys.dont_write_bytecode = True
 import compare_sound
 import programs
 
-CRATE = programs.ROOT / "crates" / "ask_engine"
+CRATE, COMMAND = "ask_engine", "store-sound"
 SEED = 3
 SHEETS = 24
 # What is kept stays small.
@@ -36,19 +36,13 @@ def texts():
 
 def check():
     """0 if the crate keeps what would be written now; else it raises Broken."""
-    for name, text in texts().items():
-        if (CRATE / name).read_bytes() != text:
-            raise programs.Broken(f"crates/ask_engine/{name} is not what oracle/store-sound writes")
-    return 0
+    return programs.check_kept(CRATE, texts(), COMMAND)
 
 
 def write():
     programs.build()
-    for name, text in texts().items():
-        (CRATE / name).write_bytes(text)
-        print(f"store-sound: {name} {len(text)} bytes")
-    return 0
+    return programs.write_kept(CRATE, texts(), COMMAND)
 
 
 if __name__ == "__main__":
-    sys.exit(programs.status_of("store-sound", write))
+    sys.exit(programs.status_of(COMMAND, write))
