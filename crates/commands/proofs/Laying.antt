@@ -172,6 +172,12 @@ release-end n i fs ss most h = let z : 0 ≡ n - i = omega arith in ap (λ (j : 
 pub most-fits : (count most a b : ℕ) → most ≡ min (min count 32) (min (a / 6) (b / 2)) → (most ≤ 32) × ((6 * most ≤ a) × (2 * most ≤ b))
 most-fits count most a b e = (omega arith, (omega (arith, mul-div-le a 6), omega (arith, mul-div-le b 2)))
 
+-- the release of the lines that the columns hold
+pub release-is : (count most : ℕ) (fs : List Float) (ss : List ℕ) → most ≡ min (min count 32) (min (length fs / 6) (length ss / 2))
+    → releaseOf (linesFrom most 0 fs ss) ≡ releaseOf (linesHeld count fs ss)
+unfolding linesHeld linesFrom
+release-is count most fs ss m = ap (λ (k : ℕ). releaseOf (linesFrom k 0 fs ss)) m
+
 pub instrument-is : (count most : ℕ) (fs : List Float) (ss : List ℕ) (release : Float) (all : Laid)
     → most ≡ min (min count 32) (min (length fs / 6) (length ss / 2)) → all ≡ laid (downward none (linesFrom most 0 fs ss))
     → release ≡ releaseOf (linesFrom most 0 fs ss)

@@ -2,7 +2,7 @@
 
 ghost use mathlib.Core.Path.{_≡_};
 ghost use mathlib.Core.List.{List, []};
-ghost use Prim.Native.Nat.{ℕ, _+_, _*_, _≤_, _<_, min};
+ghost use Prim.Native.Nat.{ℕ, _+_, _*_, _/_, _≤_, _<_, min};
 ghost use lib.ListN.{length, getD};
 ghost use Rattle.instrument.specs.declared.machine.Command.the-variants as Command;
 ghost use Rattle.instrument.specs.Lines.{outdent, larger, releaseOf};
@@ -119,11 +119,26 @@ fn release_of(numbers: &[f32], n: usize) -> f32
     most
 }
 
+// How many of the first `count` lines two columns hold: no more than 32, nor than they hold whole.
+fn held(numbers: &[f32], shape: &[usize], count: usize) -> usize
+    ensures { λ r. ⌜ r ≡ min (min count 32) (min (length (now (numbers .entry)) / 6) (length (now (shape .entry)) / 2)) ⌝ }
+{
+    least(least(count, 32), least(numbers.len() / 6, shape.len() / 2))
+}
+
+// The release alone of the instrument of the first `count` lines, without its 2 KB of commands.
+pub fn release_held(numbers: &[f32], shape: &[usize], count: usize) -> f32
+    ensures { λ r. ⌜ r ≡ releaseOf (linesHeld count (now (numbers .entry)) (now (shape .entry))) ⌝ }
+{
+    let lines = held(numbers, shape, count);
+    release_of(numbers, lines)
+}
+
 // The instrument of the first `count` lines of two columns: no more than 32, nor than the columns hold whole.
 pub fn instrument_of(numbers: &[f32], shape: &[usize], count: usize) -> Instrument
     ensures { λ r. ⌜ r ≡ instrumentOf (linesHeld count (now (numbers .entry)) (now (shape .entry))) ⌝ }
 {
-    let most = least(least(count, 32), least(numbers.len() / 6, shape.len() / 2));
+    let most = held(numbers, shape, count);
     let mut all = nothing();
     let mut left = most;
     while left > 0 {

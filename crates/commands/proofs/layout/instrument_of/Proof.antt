@@ -14,26 +14,15 @@ Inv-loop numbers shape count most all₀ left₀ all left = Laying most numbers 
 abbrev μ-loop : tie.MeasureT-loop
 μ-loop numbers shape count most all₀ left₀ all left = left
 
-least-requires : tie.Need-least-requires Inv-loop μ-loop
-least-requires c κs = search needs
-
-least-requires-2 : tie.Need-least-requires-2 Inv-loop μ-loop
-least-requires-2 c κs = search needs
-
-least-requires-3 : tie.Need-least-requires-3 Inv-loop μ-loop
-least-requires-3 c κs = search needs
+held-requires : tie.Need-held-requires Inv-loop μ-loop
+held-requires c κs = search needs
 
 nothing-requires : tie.Need-nothing-requires Inv-loop μ-loop
 nothing-requires c κs = search needs
 
--- how many lines are laid down
-held : (c : tie.After-least3 Inv-loop μ-loop)
-    → c .least3 .result ≡ min (min (c .before .before .before .before .before .args .count) 32) (min (length (c .before .before .before .before .before .args .numbers .now) / 6) (length (c .before .before .before .before .before .args .shape .now) / 2))
-held c = c .least3 .ensures ∙ ap₂ min (c .before .before .least .ensures) (c .before .least2 .ensures)
-
-fits : (c : tie.After-least3 Inv-loop μ-loop)
-    → (c .least3 .result ≤ 32) × ((6 * c .least3 .result ≤ length (c .before .before .before .before .before .args .numbers .now)) × (2 * c .least3 .result ≤ length (c .before .before .before .before .before .args .shape .now)))
-fits c = most-fits _ _ _ _ (held c)
+fits : (c : tie.After-held Inv-loop μ-loop)
+    → (c .held .result ≤ 32) × ((6 * c .held .result ≤ length (c .before .before .before .args .numbers .now)) × (2 * c .held .result ≤ length (c .before .before .before .args .shape .now)))
+fits c = most-fits _ _ _ _ (c .held .ensures)
 
 loop-holds : tie.Need-loop-holds Inv-loop μ-loop
 loop-holds c = laying-start _ _ _ _ (c .nothing .ensures)
@@ -59,7 +48,7 @@ release-of-requires c κs = fits (c .before .before .before) .1 .0
 returns : tie.Need-returns Inv-loop μ-loop
 returns c =
     let s = c .before .before .before in
-    instrument-is _ _ _ _ _ _ (held (s .before .before)) (laying-end _ _ _ _ _ (s .loop .inv) (omega arith)) (c .before .release-of .ensures _)
+    instrument-is _ _ _ _ _ _ (s .before .before .held .ensures) (laying-end _ _ _ _ _ (s .loop .inv) (omega arith)) (c .before .release-of .ensures _)
 
 pub instrument-of-spec : {M : Type 1} → statement M
 instrument-of-spec =
@@ -67,9 +56,7 @@ instrument-of-spec =
     (tie.spec
     Inv-loop
     μ-loop
-    least-requires
-    least-requires-2
-    least-requires-3
+    held-requires
     nothing-requires
     loop-holds
     sub-left
