@@ -15,7 +15,7 @@ ghost use Rattle.meaning.specs.Sheets.{plain, headerRead};
 ghost use Rattle.parser.specs.Columns.{tablesOf, readIn, Fits, Tabled, Begins, Goes, Blocked};
 use crate::sofar::Sofar;
 use crate::steps::refused;
-use commands::layout::instrument_of;
+use commands::layout::release_held;
 use operators::block::Block;
 use operators::block::read_block;
 use tables::table::header_line;
@@ -38,12 +38,11 @@ fn release_at(numbers: &[f32], shape: &[usize], i: usize, size: usize) -> f32
     requires { ⌜ (i < 32) × ((length (now numbers) ≡ 6144) × (length (now shape) ≡ 2048)) ⌝ }
     ensures { λ x. ⌜ x ≡ releaseOf (linesHeld size (region 192 i (now (numbers .entry))) (region 64 i (now (shape .entry)))) ⌝ }
 {
-    let own = instrument_of(
+    release_held(
         &numbers[192 * i..192 * i + 192],
         &shape[64 * i..64 * i + 64],
         size,
-    );
-    own.release
+    )
 }
 
 // The operator lines from place `at` on, kept as the instrument i with their number and its release.

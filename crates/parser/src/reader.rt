@@ -1,7 +1,7 @@
 // The reader of sheets (the Rust's `parser.rs`): what a source's bytes mean, or why they are refused.
 
 ghost use mathlib.Core.Path.{_≡_};
-ghost use Prim.Native.Nat.{_≤_};
+ghost use Prim.Native.Nat.{_≤_, max};
 ghost use lib.ListN.{length};
 ghost use Rattle.text.specs.Lines.{linesOf};
 ghost use Rattle.sheet.specs.Refusals.{_>>=_ as _then_};
@@ -137,18 +137,27 @@ fn read_lines(source: &[u8], rate: u32) -> Reading
     )
 }
 
-// Whether all bytes are below 128.
+// The larger of two bytes.
+fn larger_byte(a: u8, b: u8) -> u8
+    ensures { λ r. ⌜ r ≡ max a b ⌝ }
+{
+    if a < b {
+        return b;
+    }
+    a
+}
+
+// Whether all bytes are below 128. It looks for the largest and has no early end, so that it can be compiled to look at many bytes at once.
 fn all_below_128(source: &[u8]) -> bool
     ensures { λ r. ⌜ r ≡ allBelow128 (now (source .entry)) ⌝ }
 {
+    let mut most: u8 = 0;
     let mut i = 0;
     while i < source.len() {
-        if source[i] >= 128 {
-            return false;
-        }
+        most = larger_byte(most, source[i]);
         i += 1;
     }
-    true
+    most < 128
 }
 
 // What a source is read as: a refusal with its line, or a sheet with the steps that were read.
