@@ -42,7 +42,7 @@ pub enum KeyAt {
 }
 
 // The accidental at place i: one of `+`, `-` and `=`.
-pub fn accidental_at(s: &[u8], i: usize) -> Mark
+pub(crate) fn accidental_at(s: &[u8], i: usize) -> Mark
     ensures { λ r. ⌜ r ≡ markAt (now (s .entry)) i ⌝ }
 {
     if stands_at(s, i, 43) {
