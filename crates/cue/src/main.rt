@@ -1,14 +1,22 @@
 // The program `cue`: it reads a cue sheet from standard input and writes its WAV file to standard output, or one line that says why the sheet is
-// refused. What a text means, and every byte of the file, is promised by the crates below; here their answers are only handed on.
+// refused. What a text means, and every byte of the file, is promised by the crates below; here their answers are handed on, each byte once and in order.
+
+mod line;
+mod output;
 
 ghost use mathlib.Core.Path.{_≡_};
+ghost use mathlib.Core.Bool.{true};
 ghost use Prim.Native.Nat.{_≤_};
 ghost use lib.ListN.{length};
 ghost use Rattle.io.specs.Counts.{Counts};
-ghost use Rattle.engine.specs.Stream.{nextOf, nextIn};
+ghost use Rattle.handed.specs.Check.{isSheet};
+ghost use Rattle.engine.specs.Stream.{fileOf, nextOf, nextIn};
+ghost use Rattle.cue.specs.Answer.{answerOf, refusedLine};
+ghost use Rattle.cue.specs.Handing.{Takes};
+use crate::line::refused_line;
+use crate::output::Output;
 use engine::stream::next_bytes;
 use libc::STDIN_FILENO;
-use libc::STDOUT_FILENO;
 use parser::reader::read;
 use sheet::sheet::Sheet;
 
@@ -23,13 +31,15 @@ fn read_first(bytes: &mut [u8], n: usize) -> usize
     io::read_full(STDIN_FILENO, &mut bytes[..n])
 }
 
-// Writes `refused N L` and a line feed: the refusal's number, and its line.
-fn tell(number: u32, line: usize) -> bool {
-    io::write_all(STDOUT_FILENO, b"refused ")
-        && io::print_decimal(STDOUT_FILENO, number as u64)
-        && io::write_all(STDOUT_FILENO, b" ")
-        && io::print_decimal(STDOUT_FILENO, line as u64)
-        && io::write_all(STDOUT_FILENO, b"\n")
+// Hands `refused N L` and a line feed on: the refusal's number, and its line.
+fn hand_line(source: &[u8], number: u32, line: usize, out: Output, reached: &mut usize) -> Output
+    requires taking { ⌜ Takes out (now reached) × (out .at ≡ 0) ⌝ }
+    requires answer { ⌜ answerOf (now source) ≡ refusedLine number line ⌝ }
+    ensures { λ r. ⌜ (r .taking ≡ true → r .at ≡ length (answerOf (now (source .entry)))) ⌝ }
+{
+    let mut text = io::buffer();
+    let n = refused_line(number, line, &mut text);
+    out.hand(source, &text[..n], reached)
 }
 
 // The next bytes of a sheet's file, from place `at` on, at the buffer's start, and how many they are.
@@ -41,29 +51,39 @@ fn next(sheet: Sheet, buffer: &mut [u8], at: usize) -> usize
     next_bytes(sheet, buffer, 44100, at)
 }
 
-// Hands a sheet's file on, part by part, until all of it is written or nobody takes it any more. No file has more than 4,000,000,044 bytes.
-fn hand_on(sheet: Sheet) {
+// Hands a sheet's file on, part by part, until all of it is handed on or nobody takes it any more.
+fn hand_file(source: &[u8], sheet: Sheet, out: Output, reached: &mut usize) -> Output
+    requires taking { ⌜ Takes out (now reached) × (out .at ≡ 0) ⌝ }
+    requires answer { ⌜ (answerOf (now source) ≡ fileOf 44100 sheet) × (isSheet 44100 sheet ≡ true) ⌝ }
+    ensures { λ r. ⌜ (r .taking ≡ true → r .at ≡ length (answerOf (now (source .entry)))) ⌝ }
+{
     let mut buffer = io::large_buffer();
-    let mut at: usize = 0;
-    while at < 4000000044 {
-        let n = next(sheet, &mut buffer, at);
+    let mut later = out;
+    while later.is_taking() {
+        let n = next(sheet, &mut buffer, later.place());
         if n == 0 {
-            return;
+            return later;
         }
-        if !io::write_all(STDOUT_FILENO, &buffer[..n]) {
-            return;
-        }
-        at += n;
+        later = later.hand(source, &buffer[..n], reached);
     }
+    later
+}
+
+// Hands the whole answer to a source on: where the output takes all bytes, they are those of the answer, each once and in order.
+fn answer(source: &[u8], out: Output, reached: &mut usize) -> Output
+    requires { ⌜ Takes out (now reached) × (out .at ≡ 0) ⌝ }
+    ensures { λ r. ⌜ (r .taking ≡ true → r .at ≡ length (answerOf (now (source .entry)))) ⌝ }
+{
+    let reading = read(source);
+    if reading.refusal != 0 {
+        return hand_line(source, reading.refusal, reading.line, out, reached);
+    }
+    hand_file(source, reading.sheet, out, reached)
 }
 
 fn main() {
     let mut bytes = io::large_buffer();
     let n = read_first(&mut bytes, SOURCE);
-    let reading = read(&bytes[..n]);
-    if reading.refusal != 0 {
-        tell(reading.refusal, reading.line);
-        return;
-    }
-    hand_on(reading.sheet);
+    let mut reached: usize = 0;
+    answer(&bytes[..n], Output::start(), &mut reached);
 }

@@ -1,0 +1,4 @@
+pub mod Examples
+pub mod Numerals
+pub mod Pieces
+pub mod Readings

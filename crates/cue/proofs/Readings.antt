@@ -1,0 +1,39 @@
+-- The answer to what a source is read as. The sheet of every reading passes the check, so that each file is whole. Assumes nothing.
+use mathlib.Core.Path.{_≡_, refl, sym, ap, _∙_}
+use mathlib.Core.Bool.{true}
+use mathlib.Core.List.{List}
+use Prim.Native.Nat.{ℕ}
+use borrow.Author.Tests.{eq-eqb, ne-eqb}
+use Rattle.sheet.specs.Refusals.{Outcome, going, refused}
+use Rattle.handed.specs.Check.{isSheet}
+use Rattle.meaning.specs.declared.reading.Reading.{Reading}
+use Rattle.meaning.specs.Sheets.{Read, sheetRead}
+use Rattle.meaning.specs.Layout.{laidOut, readingOf}
+use Rattle.meaning.proofs.Handed.{reading-passes, empty-passes}
+use Rattle.engine.specs.Stream.{fileOf}
+use Rattle.cue.specs.Answer.{refusedLine, answerTo, answerOf}
+
+module _ (source : List ℕ) where
+  sheet-passes : isSheet 44100 (readingOf 44100 source .sheet) ≡ true
+  unfolding readingOf laidOut
+  sheet-passes = go (sheetRead 44100 source) refl
+    where
+      go : (o : Outcome Read) → sheetRead 44100 source ≡ o → isSheet 44100 (readingOf 44100 source .sheet) ≡ true
+      go (going r) e = reading-passes 44100 source r e
+      go (refused n l) e = ap (λ (o : Outcome Read). isSheet 44100 (laidOut o .sheet)) e ∙ empty-passes 44100
+
+  module _ (r : Reading) (e : r ≡ readingOf 44100 source) where
+    pub read-passes : isSheet 44100 (r .sheet) ≡ true
+    read-passes = ap (λ (q : Reading). isSheet 44100 (q .sheet)) e ∙ sheet-passes
+
+    answered : answerOf source ≡ answerTo r
+    unfolding answerOf
+    answered = ap answerTo (sym e)
+
+    pub answer-line : (r .refusal ≡ 0 → ⊥) → answerOf source ≡ refusedLine (r .refusal) (r .line)
+    unfolding answerTo
+    answer-line h = answered ∙ rw (ne-eqb (r .refusal) 0 h, answerTo)
+
+    pub answer-file : r .refusal ≡ 0 → answerOf source ≡ fileOf 44100 (r .sheet)
+    unfolding answerTo
+    answer-file h = answered ∙ rw (eq-eqb (r .refusal) 0 h, answerTo)
