@@ -21,7 +21,7 @@ use Rattle.evaluator.specs.Placing.{placed}
 use Rattle.engine.specs.Stream.{fileOf, nextOf, nextIn}
 use Rattle.engine.proofs.Files.{sample-bytes, written-count}
 use Rattle.engine.proofs.HandedOn.{file-passing, next-samples, next-header-there}
-use Rattle.cue.specs.Handing.{Next, Moved}
+use Rattle.cue.specs.Handing.{Next, Moved, Handed, none, more, written}
 use Rattle.cue.specs.declared.output.Output.{Output}
 
 -- a place where a piece of a file of so many bytes begins: at its start, or where a sample does
@@ -132,6 +132,18 @@ file-next answer file part at n a e k h l =
       counted = omega arith;
     }
 
--- a piece that is handed on continues what was handed on before it: all in all the answer's front
-pub joined : (answer part : List ℕ) (at : ℕ) → Next answer at part → take at answer ++ part ≡ take (at + length part) answer
+-- ---- what has been written
+
+-- a piece that is handed on continues what was handed on before it
+joined : (answer part : List ℕ) (at : ℕ) → Next answer at part → take at answer ++ part ≡ take (at + length part) answer
 joined answer part at n = ap (λ (p : List ℕ). take at answer ++ p) (n .piece) ∙ sym (take-add at (length part) answer)
+
+-- so that all pieces are the answer's front
+pub written-front : (answer : List ℕ) {parts : List (List ℕ)} {at : ℕ} → Handed answer parts at → written parts ≡ take at answer
+unfolding written
+written-front answer none = refl
+written-front answer (more {parts} {at} {part} h n) = ap (λ (w : List ℕ). w ++ part) (written-front answer h) ∙ joined answer part at n
+
+-- and the answer itself where the place is its end
+pub written-whole : (answer : List ℕ) {parts : List (List ℕ)} {at : ℕ} → Handed answer parts at → at ≡ length answer → written parts ≡ answer
+written-whole answer h e = written-front answer h ∙ ap (λ (n : ℕ). take n answer) e ∙ take-length answer

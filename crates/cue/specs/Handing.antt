@@ -1,7 +1,7 @@
 -- How an answer is handed on: piece by piece, each where the one before it ended. Assumes nothing.
 use mathlib.Core.Path.{_≡_}
 use mathlib.Core.Bool.{true, false}
-use mathlib.Core.List.{List}
+use mathlib.Core.List.{List, [], _∷_, _++_}
 use Prim.Native.Nat.{ℕ, _+_, _^_, _≤_, _<_}
 use lib.ListN.{length, take, drop}
 use Rattle.cue.specs.declared.output.Output.{Output}
@@ -22,3 +22,23 @@ pub record Moved (out : Output) (n : ℕ) (later : Output) (reached : ℕ) : Typ
   pub further : later .taking ≡ true → later .at ≡ out .at + n
   pub stays : later .taking ≡ false → later .at ≡ out .at
   pub last : reached ≡ later .at
+
+-- nothing is handed on yet
+abbrev pub Fresh : Output → ℕ → Type 0
+Fresh out reached = Takes out reached × (out .at ≡ 0)
+
+-- all of the answer is handed on, or the output takes no more
+abbrev pub Whole : List ℕ → Output → Type 0
+Whole answer out = out .taking ≡ true → out .at ≡ length answer
+
+-- ---- what has been written
+
+-- parts that were handed on one behind the other, the last in front, and the place that was reached
+pub data Handed (answer : List ℕ) : List (List ℕ) → ℕ → Type 0 where
+  none : Handed answer [] 0
+  more : {parts : List (List ℕ)} {at : ℕ} {part : List ℕ} → Handed answer parts at → Next answer at part → Handed answer (part ∷ parts) (at + length part)
+
+-- all their bytes, in the order in which they were handed on
+unfoldable pub written : List (List ℕ) → List ℕ
+written [] = []
+written (part ∷ parts) = written parts ++ part

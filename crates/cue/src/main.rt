@@ -12,7 +12,7 @@ ghost use Rattle.io.specs.Counts.{Counts};
 ghost use Rattle.handed.specs.Check.{isSheet};
 ghost use Rattle.engine.specs.Stream.{fileOf, nextOf, nextIn};
 ghost use Rattle.cue.specs.Answer.{answerOf, refusedLine};
-ghost use Rattle.cue.specs.Handing.{Takes};
+ghost use Rattle.cue.specs.Handing.{Fresh, Whole};
 use crate::line::refused_line;
 use crate::output::Output;
 use engine::stream::next_bytes;
@@ -33,9 +33,9 @@ fn read_first(bytes: &mut [u8], n: usize) -> usize
 
 // Hands `refused N L` and a line feed on: the refusal's number, and its line.
 fn hand_line(source: &[u8], number: u32, line: usize, out: Output, reached: &mut usize) -> Output
-    requires taking { ⌜ Takes out (now reached) × (out .at ≡ 0) ⌝ }
+    requires fresh { ⌜ Fresh out (now reached) ⌝ }
     requires answer { ⌜ answerOf (now source) ≡ refusedLine number line ⌝ }
-    ensures { λ r. ⌜ (r .taking ≡ true → r .at ≡ length (answerOf (now (source .entry)))) ⌝ }
+    ensures { λ r. ⌜ Whole (answerOf (now (source .entry))) r ⌝ }
 {
     let mut text = io::buffer();
     let n = refused_line(number, line, &mut text);
@@ -53,9 +53,9 @@ fn next(sheet: Sheet, buffer: &mut [u8], at: usize) -> usize
 
 // Hands a sheet's file on, part by part, until all of it is handed on or nobody takes it any more.
 fn hand_file(source: &[u8], sheet: Sheet, out: Output, reached: &mut usize) -> Output
-    requires taking { ⌜ Takes out (now reached) × (out .at ≡ 0) ⌝ }
+    requires fresh { ⌜ Fresh out (now reached) ⌝ }
     requires answer { ⌜ (answerOf (now source) ≡ fileOf 44100 sheet) × (isSheet 44100 sheet ≡ true) ⌝ }
-    ensures { λ r. ⌜ (r .taking ≡ true → r .at ≡ length (answerOf (now (source .entry)))) ⌝ }
+    ensures { λ r. ⌜ Whole (answerOf (now (source .entry))) r ⌝ }
 {
     let mut buffer = io::large_buffer();
     let mut later = out;
@@ -71,8 +71,8 @@ fn hand_file(source: &[u8], sheet: Sheet, out: Output, reached: &mut usize) -> O
 
 // Hands the whole answer to a source on: where the output takes all bytes, they are those of the answer, each once and in order.
 fn answer(source: &[u8], out: Output, reached: &mut usize) -> Output
-    requires { ⌜ Takes out (now reached) × (out .at ≡ 0) ⌝ }
-    ensures { λ r. ⌜ (r .taking ≡ true → r .at ≡ length (answerOf (now (source .entry)))) ⌝ }
+    requires { ⌜ Fresh out (now reached) ⌝ }
+    ensures { λ r. ⌜ Whole (answerOf (now (source .entry))) r ⌝ }
 {
     let reading = read(source);
     if reading.refusal != 0 {

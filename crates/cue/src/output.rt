@@ -39,7 +39,7 @@ impl Output {
     }
 
     // Hands the next piece of the answer on; nothing else in the program writes. An `Output` can be copied, and `reached` holds how far the program has
-    // come, so that an older copy cannot hand its piece on again.
+    // come, so that an older copy cannot hand its piece on again. That there is one `reached`, and nothing else changes it, tools/compare/program sees.
     pub fn hand(self, source: &[u8], part: &[u8], reached: &mut usize) -> Output
         requires taking { ⌜ Takes self (now reached) ⌝ }
         requires next { ⌜ Next (answerOf (now source)) (self .at) (now part) ⌝ }
