@@ -8,7 +8,7 @@ use Rattle.sheet.specs.Refusals.{Outcome, going, refused}
 use Rattle.handed.specs.Check.{isSheet}
 use Rattle.meaning.specs.declared.reading.Reading.{Reading}
 use Rattle.meaning.specs.Sheets.{Read, sheetRead}
-use Rattle.meaning.specs.Layout.{laidOut, readingOf}
+use Rattle.meaning.specs.Layout.{sheetOf, laidOut, readingOf}
 use Rattle.meaning.proofs.Handed.{reading-passes, empty-passes}
 use Rattle.engine.specs.Stream.{fileOf}
 use Rattle.cue.specs.Answer.{refusedLine, answerTo, answerOf}
@@ -37,3 +37,13 @@ module _ (source : List ℕ) where
     pub answer-file : r .refusal ≡ 0 → answerOf source ≡ fileOf 44100 (r .sheet)
     unfolding answerTo
     answer-file h = answered ∙ rw (eq-eqb (r .refusal) 0 h, answerTo)
+
+  -- ---- the answer by what has come of the reading
+
+  pub accepted-answer : (r : Read) → sheetRead 44100 source ≡ going r → answerOf source ≡ fileOf 44100 (sheetOf (r .parts) (r .instruments))
+  unfolding answerOf answerTo readingOf laidOut
+  accepted-answer r e = ap (λ (o : Outcome Read). answerTo (laidOut o)) e
+
+  pub refused-answer : (n l : ℕ) → sheetRead 44100 source ≡ refused n l → (n ≡ 0 → ⊥) → answerOf source ≡ refusedLine n l
+  unfolding answerOf answerTo readingOf laidOut
+  refused-answer n l e h = ap (λ (o : Outcome Read). answerTo (laidOut o)) e ∙ rw (ne-eqb n 0 h, answerTo)

@@ -6,7 +6,7 @@ use Prim.Native.Nat.{ℕ, _+_, _^_, _≤_, _<_}
 use lib.ListN.{length, take, drop}
 use Rattle.cue.specs.declared.output.Output.{Output}
 
--- the output takes bytes, and all that was ever handed on is what it says
+-- the output takes bytes, and the program has come just as far as it says
 pub record Takes (out : Output) (reached : ℕ) : Type 0 where
   pub taking : out .taking ≡ true
   pub last : reached ≡ out .at
