@@ -67,7 +67,7 @@ module _ (line : ℕ) where
   feedback-numbered (t ∷ ts) =
       numbered-then _ _ (present-numbered (intAt valueMost t 0)) (λ v. numbered-unless _ _ _ _ (omega arith) (numbered-going v))
 
-  line-numbered : (before : Option ℕ) (above : ℕ) (l : List ℕ) → Numbered (operatorRead line before above l)
+  pub line-numbered : (before : Option ℕ) (above : ℕ) (l : List ℕ) → Numbered (operatorRead line before above l)
   unfolding operatorRead
   line-numbered before above l =
       indented-numbered before (indentOf l) _
