@@ -117,7 +117,7 @@ front-put xs ys bs h =
     ap (λ (l : List ℕ). bs ++ l) (ap (λ (n : ℕ). drop n (xs ++ ys)) (zero-add (length bs)) ∙ drop-append-le (length bs) xs ys h ∙ ap (λ (n : ℕ). drop n xs ++ ys) (sym (zero-add (length bs))))
     ∙ sym (append-assoc bs (drop (0 + length bs) xs) ys)
 
-both-put : (xs ys bs cs : List ℕ) → length bs ≡ length xs → put (xs ++ ys) 0 (bs ++ cs) ≡ put xs 0 bs ++ put ys 0 cs
+pub both-put : (xs ys bs cs : List ℕ) → length bs ≡ length xs → put (xs ++ ys) 0 (bs ++ cs) ≡ put xs 0 bs ++ put ys 0 cs
 unfolding put
 both-put xs ys bs cs h =
     let n : 0 + length (bs ++ cs) ≡ length xs + (0 + length cs) = omega (arith, length-append bs cs) in
