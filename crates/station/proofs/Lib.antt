@@ -1,3 +1,5 @@
 pub mod Asked
+pub mod Callers
+pub mod Checked
 pub mod Numbers
 pub mod Texts

@@ -18,7 +18,7 @@ use Rattle.meaning.specs.Sheets.{Read, Kind, skipped, headerLine, directiveLine
 use Rattle.parser.proofs.Bodies.{body-numbered}
 use Rattle.parser.proofs.Numbers.{At, directive-numbered, macro-at, header-at}
 
-numbered-if : {A : Type 0} (n l : ℕ) (t : Bool) (rest : Outcome A) → 0 < n → Numbered rest → Numbered (_>>_ (refuse_on_if_ n l t) rest)
+pub numbered-if : {A : Type 0} (n l : ℕ) (t : Bool) (rest : Outcome A) → 0 < n → Numbered rest → Numbered (_>>_ (refuse_on_if_ n l t) rest)
 unfolding Numbered _>>_ refuse_on_if_
 numbered-if n l true rest h k = h
 numbered-if n l false rest h k = k

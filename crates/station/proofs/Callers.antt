@@ -1,0 +1,116 @@
+-- What a caller may rely on beside the contracts: what is told is which outcome it is, and a number of 0 is none; the samples are those of the reading; the
+-- file is the one that the program hands on; and a header with windows one after the other behind it gives the bytes of the whole file. Assumes nothing.
+use mathlib.Core.Path.{_≡_, refl, sym, ap, ap₂, _∙_}
+use mathlib.Core.List.{List, _++_}
+use Prim.Native.Nat.{ℕ, _+_, _-_, _*_, _/_, _≤_, _<_, min}
+use native.Mathlib.Omega.{arith}
+use lib.ListN.{length, length-append}
+use Rattle.wave.specs.Form.{oldSize}
+use Rattle.wave.specs.File.{put, roomAt}
+use Rattle.wave.proofs.Published.{header-length}
+use Rattle.sheet.specs.declared.sheet.Sheet.{Sheet}
+use Rattle.sheet.specs.Parts.{lengthOf}
+use Rattle.sheet.specs.Refusals.{Outcome, going, refused, _>>=_, _>>_}
+use Rattle.sheet.proofs.Outcomes.{then-going, then-refused, Numbered, numbered-going, numbered-unless, numbered-then}
+use Rattle.engine.specs.Files.{headerIn, writtenIn}
+use Rattle.engine.specs.Stream.{fileOf}
+use Rattle.engine.proofs.Answers.{header-taken, header-written as header-put}
+use Rattle.engine.proofs.Files.{fitting, written-is, written-cut, both-put}
+use Rattle.engine.proofs.HandedOn.{file-passing}
+use Rattle.meaning.specs.Sheets.{Read, sheetRead, lengthRead}
+use Rattle.meaning.specs.Layout.{sheetOf}
+use Rattle.meaning.proofs.Laid.{laid-length}
+use Rattle.station.specs.declared.told.Told.{Told}
+use Rattle.station.specs.Calls.{told, rate, sheetIn, samplesAsked, headerAsked, headerBytes, headerWritten, windowAsked, sampleBytes, windowWritten, sizeAsked, wavAsked, wavWritten}
+use Rattle.station.proofs.Numbers.{sheet-numbered, numbered-if}
+use Rattle.station.proofs.Texts.{sheet-passes}
+use Rattle.station.proofs.Asked.{header-kept, header-written, window-kept, window-written, wav-is}
+
+-- ---- what is told
+
+-- what is told of two outcomes is the same only where they are, so two answers to the same bytes say the same
+pub told-same : (o p : Outcome ℕ) → Numbered o → Numbered p → told o ≡ told p → o ≡ p
+unfolding told Numbered
+told-same (going m) (going n) h k e = ap going (ap (λ (t : Told). t .count) e)
+told-same (going m) (refused n l) h k e = let z : 0 ≡ n = ap (λ (t : Told). t .refusal) e in absurd (omega arith)
+told-same (refused m l) (going n) h k e = let z : m ≡ 0 = ap (λ (t : Told). t .refusal) e in absurd (omega arith)
+told-same (refused m l) (refused n j) h k e = ap₂ refused (ap (λ (t : Told). t .refusal) e) (ap (λ (t : Told). t .line) e)
+
+-- where the number is 0, nothing was refused
+pub told-going : (o : Outcome ℕ) → Numbered o → told o .refusal ≡ 0 → o ≡ going (told o .count)
+unfolding told Numbered
+told-going (going n) h z = refl
+told-going (refused n l) h z = absurd (omega (arith, h, z))
+
+-- no refusal of a call has the number 0
+text-numbered : (source : List ℕ) → Numbered (sheetIn source)
+unfolding sheetIn
+text-numbered source = numbered-then _ _ (sheet-numbered rate source) (λ r. numbered-going _)
+
+pub samples-numbered : (source : List ℕ) → Numbered (samplesAsked source)
+unfolding samplesAsked
+samples-numbered source = numbered-then _ _ (text-numbered source) (λ s. numbered-going _)
+
+pub header-numbered : (source : List ℕ) (room : ℕ) → Numbered (headerAsked source room)
+unfolding headerAsked
+header-numbered source room = numbered-then _ _ (text-numbered source) (λ s. numbered-unless _ _ _ _ (omega arith) (numbered-going _))
+
+pub window-numbered : (source : List ℕ) (start room at : ℕ) → Numbered (windowAsked source start room at)
+unfolding windowAsked
+window-numbered source start room at =
+    numbered-then _ _ (text-numbered source)
+    (λ s. numbered-unless _ _ _ _ (omega arith)
+    (numbered-unless _ _ _ _ (omega arith) (numbered-if _ _ _ _ (omega arith) (numbered-going _))))
+
+pub wav-numbered : (source : List ℕ) (room : ℕ) → Numbered (wavAsked source room)
+unfolding wavAsked sizeAsked
+wav-numbered source room =
+    numbered-then _ _ (numbered-then _ _ (samples-numbered source) (λ n. numbered-going _)) (λ n. numbered-unless _ _ _ _ (omega arith) (numbered-going n))
+
+-- ---- the samples
+
+-- the samples are counted as the reading counts them for 27
+pub samples-read : (source : List ℕ) → samplesAsked source ≡ (sheetRead rate source >>= (λ (r : Read). going (lengthRead rate r)))
+unfolding samplesAsked sheetIn _>>=_
+samples-read source = go (sheetRead rate source)
+  where
+    go : (o : Outcome Read) → ((o >>= (λ (r : Read). going (sheetOf (r .parts) (r .instruments)))) >>= (λ (s : Sheet). going (lengthOf rate s))) ≡ (o >>= (λ (r : Read). going (lengthRead rate r)))
+    go (going r) = ap going (laid-length rate r)
+    go (refused n l) = refl
+
+-- ---- the file
+
+-- the file that the program `cue` hands on
+pub wav-handed : (source : List ℕ) (s : Sheet) (buffer : List ℕ) → sheetIn source ≡ going s → 44 + 2 * lengthOf rate s ≤ length buffer
+    → wavWritten source buffer ≡ put buffer 0 (fileOf rate s)
+wav-handed source s buffer e h = wav-is source s e buffer h ∙ ap (put buffer 0) (sym (file-passing rate s (sheet-passes source s e)))
+
+-- the header in the first 44 bytes, and a window in the bytes behind them
+pub wav-cut : (source : List ℕ) (s : Sheet) (h b : List ℕ) → sheetIn source ≡ going s → length h ≡ 44 → 2 * lengthOf rate s ≤ length b
+    → wavWritten source (h ++ b) ≡ headerWritten source h ++ windowWritten source 0 b 0
+unfolding roomAt
+wav-cut source s h b e l m =
+    let p = sheet-passes source s e in
+    let n = lengthOf rate s in
+    let room : 44 + 2 * n ≤ length (h ++ b) = omega (arith, length-append h b) in
+    let all : min ((length b - 0) / 2) (n - 0) ≡ n = omega arith in
+    wav-is source s e (h ++ b) room
+    ∙ both-put h b (headerBytes s) (sampleBytes s 0 n) (header-length (oldSize n) rate n ∙ sym l)
+    ∙ sym
+    (ap₂ (λ (x y : List ℕ). x ++ y)
+    (header-written source s e h ∙ header-put rate s h 44 (header-taken rate s h p (omega arith)))
+    (window-written source s e 0 b 0 ∙ written-is rate s p 0 b 0 ∙ ap (λ (k : ℕ). put b 0 (sampleBytes s 0 k)) all))
+
+-- windows one after the other give the bytes of one large window, refusals and all
+pub windows-cut : (source : List ℕ) (start a : ℕ) (xs ys : List ℕ) → length xs ≡ 2 * a
+    → windowWritten source start (xs ++ ys) 0 ≡ windowWritten source start xs 0 ++ windowWritten source (start + a) ys 0
+windows-cut source start a xs ys h = go (sheetIn source) refl
+  where
+    go : (o : Outcome Sheet) → sheetIn source ≡ o → windowWritten source start (xs ++ ys) 0 ≡ windowWritten source start xs 0 ++ windowWritten source (start + a) ys 0
+    go (going s) e =
+        window-written source s e start (xs ++ ys) 0
+        ∙ written-cut rate s start a xs ys h
+        ∙ sym (ap₂ (λ (x y : List ℕ). x ++ y) (window-written source s e start xs 0) (window-written source s e (start + a) ys 0))
+    go (refused n l) e =
+        window-kept source n l e start (xs ++ ys) 0
+        ∙ sym (ap₂ (λ (x y : List ℕ). x ++ y) (window-kept source n l e start xs 0) (window-kept source n l e (start + a) ys 0))
