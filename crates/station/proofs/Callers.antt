@@ -2,7 +2,7 @@
 -- file is the one that the program hands on; and a header with windows one after the other behind it gives the bytes of the whole file. Assumes nothing.
 use mathlib.Core.Path.{_≡_, refl, sym, ap, ap₂, _∙_}
 use mathlib.Core.List.{List, _++_}
-use Prim.Native.Nat.{ℕ, _+_, _-_, _*_, _/_, _≤_, _<_, min}
+use Prim.Native.Nat.{ℕ, _+_, _-_, _*_, _/_, _≤_, min}
 use native.Mathlib.Omega.{arith}
 use lib.ListN.{length, length-append}
 use Rattle.wave.specs.Form.{oldSize}
@@ -11,11 +11,10 @@ use Rattle.wave.proofs.Published.{header-length}
 use Rattle.sheet.specs.declared.sheet.Sheet.{Sheet}
 use Rattle.sheet.specs.Parts.{lengthOf}
 use Rattle.sheet.specs.Refusals.{Outcome, going, refused, _>>=_, _>>_}
-use Rattle.sheet.proofs.Outcomes.{then-going, then-refused, Numbered, numbered-going, numbered-unless, numbered-then}
-use Rattle.engine.specs.Files.{headerIn, writtenIn}
+use Rattle.sheet.proofs.Outcomes.{Numbered, numbered-going, numbered-unless, numbered-then}
 use Rattle.engine.specs.Stream.{fileOf}
 use Rattle.engine.proofs.Answers.{header-taken, header-written as header-put}
-use Rattle.engine.proofs.Files.{fitting, written-is, written-cut, both-put}
+use Rattle.engine.proofs.Files.{written-is, written-cut, both-put}
 use Rattle.engine.proofs.HandedOn.{file-passing}
 use Rattle.meaning.specs.Sheets.{Read, sheetRead, lengthRead}
 use Rattle.meaning.specs.Layout.{sheetOf}
@@ -24,7 +23,7 @@ use Rattle.station.specs.declared.told.Told.{Told}
 use Rattle.station.specs.Calls.{told, rate, sheetIn, samplesAsked, headerAsked, headerBytes, headerWritten, windowAsked, sampleBytes, windowWritten, sizeAsked, wavAsked, wavWritten}
 use Rattle.station.proofs.Numbers.{sheet-numbered, numbered-if}
 use Rattle.station.proofs.Texts.{sheet-passes}
-use Rattle.station.proofs.Asked.{header-kept, header-written, window-kept, window-written, wav-is}
+use Rattle.station.proofs.Asked.{header-written, window-kept, window-written, wav-is}
 
 -- ---- what is told
 

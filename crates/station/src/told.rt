@@ -90,11 +90,11 @@ pub fn wav_of(source: &[u8], buffer: &mut [u8]) -> Told
     ensures answer { λ r. ⌜ r ≡ wavTold (now (source .entry)) (length (now (buffer .entry))) ⌝ }
     ensures bytes { λ _. ⌜ now (buffer .exit) ≡ wavWritten (now (source .entry)) (now (buffer .entry)) ⌝ }
 {
-    let reading = read(source);
-    if reading.refusal != 0 {
-        return turned_away(reading.refusal, reading.line);
+    let text = read(source);
+    if text.refusal != 0 {
+        return turned_away(text.refusal, text.line);
     }
-    let size = 44 + 2 * check(reading.sheet, 44100).length;
+    let size = 44 + 2 * check(text.sheet, 44100).length;
     if buffer.len() < size {
         return Told {
             count: size,
@@ -102,7 +102,7 @@ pub fn wav_of(source: &[u8], buffer: &mut [u8]) -> Told
             line: 0,
         };
     }
-    write_header(reading.sheet, buffer, 44100);
-    write_window(reading.sheet, buffer, 44, 44100, 0);
+    write_header(text.sheet, buffer, 44100);
+    write_window(text.sheet, buffer, 44, 44100, 0);
     so_many(size)
 }
