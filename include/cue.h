@@ -18,7 +18,7 @@
  * nor the text, and no other thread writes the text or touches the rest during the call. refusal and line are never NULL. An empty text or buffer
  * (length 0) is not read or written through its pointer, and NULL there is tried by the tests; a slice of Rust, which the pointer and the length
  * become, is not to be NULL, so rather pass the address of any byte.
- * A call takes up to CUE_STACK bytes of stack; there is no heap.
+ * A call takes nearly 1,000,000 bytes of stack, whatever the text, and nothing of the heap: in a thread of your own see that CUE_STACK bytes are left.
  *
  * Refusals: 1 to 27 are the text's, in the order in which document 01 asks them, each with its line; then come
  *   29   the window's start is past the number of samples,

@@ -26,15 +26,16 @@ class Broken(Exception):
 
 
 def done(command, **more):
-    """What a command writes; Broken where it fails or does not end."""
+    """What a command writes; Broken where it fails or does not end, with what it says."""
     name = Path(command[0]).name
     try:
         ended = subprocess.run(command, cwd=ROOT, capture_output=True, timeout=600, **more)
     except (OSError, subprocess.TimeoutExpired) as trouble:
         raise Broken(f"{name}: {trouble}") from trouble
     if ended.returncode != 0:
-        said = (ended.stderr or ended.stdout).decode(errors="replace").strip()
-        raise Broken(f"{name} ended with status {ended.returncode}: {said[-1500:]}")
+        # What the asking programs write on standard output is no text.
+        said = (ended.stderr if "input" in more else ended.stdout + ended.stderr).decode(errors="replace").strip()
+        raise Broken(f"{name} ended with status {ended.returncode}: {said[-1500:] or 'it says nothing'}")
     return ended.stdout
 
 

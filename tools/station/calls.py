@@ -81,7 +81,16 @@ def answer(request, known):
 # ---- which calls are made
 
 # For a text that is refused: rooms and places that would be refused by themselves too.
-REFUSED = ((SAMPLES, 0, 0, 0), (WAV, 0, 0, 0), (WAV, 0, 61, 0), (HEADER, 0, 43, 0), (HEADER, 0, 61, 0), (WINDOW, 0, 9, 0), (WINDOW, 0, 9, 10), (WINDOW, MOST, 9, 10))
+REFUSED = (
+    (SAMPLES, 0, 0, 0),
+    (WAV, 0, 0, 0),
+    (WAV, 0, 61, 0),
+    (HEADER, 0, 43, 0),
+    (HEADER, 0, 61, 0),
+    (WINDOW, 0, 9, 0),
+    (WINDOW, 0, 9, 10),
+    (WINDOW, MOST, 9, 10),
+)
 
 
 def windows(n):
