@@ -18,7 +18,7 @@
  * nor the text, and no other thread writes the text or touches the rest during the call. refusal and line are never NULL. An empty text or buffer
  * (length 0) is not read or written through its pointer, and NULL there is tried by the tests; a slice of Rust, which the pointer and the length
  * become, is not to be NULL, so rather pass the address of any byte.
- * A call takes nearly 1,000,000 bytes of stack, whatever the text, and nothing of the heap: in a thread of your own see that CUE_STACK bytes are left.
+ * A call takes nearly 1,000,000 bytes of stack, whatever the text, and nothing of the heap; a thread that calls has CUE_STACK bytes left.
  *
  * Refusals: 1 to 27 are the text's, in the order in which document 01 asks them, each with its line; then come
  *   29   the window's start is past the number of samples,
@@ -83,7 +83,7 @@ size_t cue_header(const uint8_t *source, size_t source_len, uint8_t *buffer, siz
 
 /* Writes samples, from number `start` of the sheet on (the first is 0), as two bytes each from place `place` of the buffer on: those that exist and
  * fit whole. Answers how many samples these are. Bytes before them, and behind them, keep their values.
- * start past the number of samples: 0, refusal 29, line 0. start at that number: 0 and no refusal, if the place is inside.
+ * start past the number of samples: 0, refusal 29, line 0. start at that number, and place not past buffer_len: 0 and no refusal.
  * place past buffer_len, or a sample exists and under two bytes are left: 0, refusal 30, line 0. Where both 29 and 30 hold it is 29.
  * A text that is refused: 0, its number and its line. After every refusal nothing is written.
  * The header and then windows, each from where the last one ended, give the bytes of cue_wav; each call reads the text anew. */

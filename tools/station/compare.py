@@ -14,6 +14,7 @@ import subprocess
 import sys
 from collections import Counter
 from concurrent.futures import ThreadPoolExecutor
+from contextlib import suppress
 from itertools import accumulate, dropwhile
 
 import builds
@@ -58,21 +59,17 @@ def edges():
 
 
 def known(text):
-    """What the program `cue` says of a text: a refusal, or the first bytes of the file."""
-    program = subprocess.Popen([ROOT / "tools" / "run", "cue"], stdin=subprocess.PIPE, stdout=subprocess.PIPE, stderr=subprocess.PIPE)
-    with program:
-        try:
-            program.stdin.write(text)
-            program.stdin.close()
-        except BrokenPipeError:
-            pass
+    """What the program `cue` says of a text: a refusal, or the first bytes of the file. It ends by itself where nobody takes more."""
+    pipe = subprocess.PIPE
+    with subprocess.Popen([ROOT / "tools" / "run", "cue"], stdin=pipe, stdout=pipe, stderr=pipe) as program:
+        with suppress(BrokenPipeError), program.stdin as asked:
+            asked.write(text)
         front = program.stdout.read(FRONT)
-        if len(front) == FRONT:
-            program.kill()
+        errors = b"" if len(front) == FRONT else program.stderr.read()
     if front.startswith(b"refused "):
         return Refused(*map(int, front.split()[1:]))
     if not front.startswith(b"RIFF"):
-        raise Broken(f"cue gives no answer to the sheet {escape(text)}: {program.stderr}")
+        raise Broken(f"cue does not answer the sheet {escape(text)[:300]}: {errors.decode(errors='replace').strip()}")
     return Sound(int.from_bytes(front[40:44], "little") // 2, front)
 
 
