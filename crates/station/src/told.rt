@@ -51,7 +51,7 @@ fn told_of(answer: Answer) -> Told
 }
 
 // How many samples a text has.
-pub fn samples_of(source: &[u8]) -> Told
+pub(crate) fn samples_of(source: &[u8]) -> Told
     ensures { λ r. ⌜ r ≡ told (samplesAsked (now (source .entry))) ⌝ }
 {
     let reading = read(source);
@@ -62,7 +62,7 @@ pub fn samples_of(source: &[u8]) -> Told
 }
 
 // The header of a text's file, in the buffer's first 44 bytes.
-pub fn header_of(source: &[u8], buffer: &mut [u8]) -> Told
+pub(crate) fn header_of(source: &[u8], buffer: &mut [u8]) -> Told
     ensures answer { λ r. ⌜ r ≡ told (headerAsked (now (source .entry)) (length (now (buffer .entry)))) ⌝ }
     ensures bytes { λ _. ⌜ now (buffer .exit) ≡ headerWritten (now (source .entry)) (now (buffer .entry)) ⌝ }
 {
@@ -74,7 +74,7 @@ pub fn header_of(source: &[u8], buffer: &mut [u8]) -> Told
 }
 
 // The samples of a text from `start` on that exist and fit whole, as bytes from `place` on.
-pub fn window_of(source: &[u8], start: usize, buffer: &mut [u8], place: usize) -> Told
+pub(crate) fn window_of(source: &[u8], start: usize, buffer: &mut [u8], place: usize) -> Told
     ensures answer { λ r. ⌜ r ≡ told (windowAsked (now (source .entry)) start (length (now (buffer .entry))) place) ⌝ }
     ensures bytes { λ _. ⌜ now (buffer .exit) ≡ windowWritten (now (source .entry)) start (now (buffer .entry)) place ⌝ }
 {
@@ -86,7 +86,7 @@ pub fn window_of(source: &[u8], start: usize, buffer: &mut [u8], place: usize) -
 }
 
 // The whole file of a text, in the buffer's first bytes; the count is the file's size, also where the buffer has fewer.
-pub fn wav_of(source: &[u8], buffer: &mut [u8]) -> Told
+pub(crate) fn wav_of(source: &[u8], buffer: &mut [u8]) -> Told
     ensures answer { λ r. ⌜ r ≡ wavTold (now (source .entry)) (length (now (buffer .entry))) ⌝ }
     ensures bytes { λ _. ⌜ now (buffer .exit) ≡ wavWritten (now (source .entry)) (now (buffer .entry)) ⌝ }
 {
