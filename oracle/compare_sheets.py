@@ -1,132 +1,138 @@
-"""Compares the proved reader, the model, answers written down and both Rust programs over many sheets.
+"""Compares the model with both Rust programs and the answers written down, and then the proved reader, by `ask_reading`, with the model.
 
-    oracle/compare-sheets [SEED [COUNT]]
-
-Hand-made sheets, COUNT generated ones, and some aimed at each refusal number. First the model is held
-against the Rust and the answers written down, and then the proved reader against the model and the
-Rust. It prints one line with the counts; for the model a sheet counts only where its answer was held
-against one of those. A difference ends it with status 1 and the smallest sheet that shows one. So does
-a run that compared less than its floors; one with a COUNT of its own has none.
+Hand-made sheets, generated ones, some aimed at each refusal number, and every short one of some kinds. For the model a sheet counts
+only where its answer was held against another: the Rust's in the domain, one written down outside it. The reader is held against the
+model on every sheet: number, line and steps, parts, notes and commands. As the model has the Rust's in the domain, so has the reader.
 """
 
-import sys
 from collections import Counter
+from itertools import product
 
-sys.dont_write_bytecode = True
+import judged
+import reading
+from harness import VERSION, build, hold, proved
+from judged import NUMBERS, Judged
 
-import judge
-import past_limits
-import programs
-import reader
-import store
-import store_reading
-from dice import Dice
-from faults import FAULTS
-from floors import shortfall
-from sheets import sheets
-
-SEED = 1
 COUNT = 20_000
-# For each refusal number, so that none is left to the generator's luck.
-AIMED = 100
-NUMBERS = range(1, 28)
-# How often each refusal number must come, from 1 on.
+# For each refusal number one aimed sheet to so many generated ones.
+AIMED = 200
+# How often each refusal number must come, from 1 on; the reader is held against the model outside the domain too.
 REFUSALS = dict(zip(NUMBERS, (
     *(80, 80, 295, 315, 290, 410, 440, 520, 365),
     *(370, 305, 300, 345, 680, 265, 285, 455, 400),
     *(90, 80, 105, 80, 90, 90, 375, 310, 80),
 ), strict=True))
-# The reader is held against the model outside the domain too.
 READ = {**REFUSALS, 1: 185, 2: 560, 19: 305, 20: 280, 21: 290, 22: 200, 23: 150, 24: 235, 27: 190}
 FLOORS = {
     "hand-made in the domain": 340,
     "generated in the domain": 14_300,
     "aimed in the domain": 1_400,
+    "short in the domain": 19_500,
+    "outside it": 790,
     "accepted": 9_300,
     **{f"refused {number}": least for number, least in REFUSALS.items()},
+    "short read": 19_500,
     "read": 18_500,
     "read and accepted": 9_300,
     **{f"read and refused {number}": least for number, least in READ.items()},
 }
 
 
-def generated(seed, count):
-    cases = enumerate(sheets(seed, count), 1)
-    return [judge.Case(f"seed {seed} sheet {i}", sheet) for i, sheet in cases]
+# ---- every short sheet of some kinds
 
 
-def one_aimed(dice, number):
-    """A sheet for a refusal number, and its answer where the Rust has none to give."""
-    if number in judge.OUTSIDE:
-        return past_limits.THROWN[number](dice)
-    return FAULTS[number](dice), None
+# Each character of a body means something.
+BODY, BODY_LENGTH = "c+0.[]:2o;v", 4
+KEY, KEY_LENGTH = "ag+-=h", 4
+# The bounds of `#tempo` and `#denom`, from both sides, and what stands around a number.
+VALUES = {"#tempo": range(0, 1_003), "#denom": range(0, 131)}
+TOO_LARGE = (4_294_967_295, 4_294_967_296)
+WRITTEN = ("{}", "0{}", "{}.5", "{}x", "x{}", "{} 1")
 
 
-def aimed(seed):
-    # Other dice than the generator's.
-    dice = Dice(~seed)
-    return [
-        judge.Case(f"seed {seed} aimed at {number}, sheet {i}", *one_aimed(Dice(dice.word()), number))
-        for number in NUMBERS
-        for i in range(1, AIMED + 1)
-    ]
+def words(alphabet, longest):
+    for length in range(longest + 1):
+        yield from map("".join, product(alphabet, repeat=length))
 
 
-def tally(groups):
-    """Counts the judged sheets of each group by domain and by answer, and all that were read by answer."""
-    counts = Counter()
-    for name, cases in groups.items():
-        for case in cases:
-            verdict = f"refused {case.number}" if case.number else "accepted"
-            counts.update(["read", f"read and {verdict}"] if case.read else [])
-            if not case.is_judged():
-                counts["not judged"] += 1
-                continue
-            counts[f"{name} in the domain" if case.in_domain() else "outside"] += 1
-            counts[verdict] += 1
+def short():
+    """Every body and key of a few characters, and directives with every number near their bounds."""
+    texts = [f"p {body}" for body in words(BODY, BODY_LENGTH)]
+    texts += [f"#key {key}\np agc" for key in words(KEY, KEY_LENGTH)]
+    for name, values in VALUES.items():
+        texts += [f"{name} {form.format(n)}\np c" for form in WRITTEN for n in (*values, *TOO_LARGE)]
+    return [Judged("short", text.encode("ascii")) for text in texts]
+
+
+# ---- the comparison
+
+
+def hold_reader(sheets):
+    hold("ask_reading", proved("ask_reading"), [s.case(reading.request(s.text), reading.answer(s.answer)) for s in sheets])
+    return Counter({"read": len(sheets)}) + Counter(f"read and {sheet.verdict}" for sheet in sheets)
+
+
+def compare(seed, count):
+    groups = {
+        "hand-made": judged.hand_made(),
+        "generated": judged.generated(seed, count),
+        "aimed": judged.aimed(seed, 1 + count // AIMED),
+    }
+    sheets = [sheet for group in groups.values() for sheet in group]
+    # No part of a run that is shorter than the usual one.
+    shorts = short() if count >= COUNT else []
+    judged.hold_model(sheets + shorts)
+    # The many short ones would hide how often the others are refused.
+    counts = judged.tally(groups) + hold_reader(sheets)
+    counts["short in the domain"] = judged.tally({"short": shorts})["short in the domain"]
+    counts["short read"] = hold_reader(shorts)["read"]
     return counts
 
 
-def verdicts(counts, before=""):
-    """How many were accepted, and refused by number."""
-    refused = " ".join(f"{number}:{counts[f'{before}refused {number}']}" for number in NUMBERS)
-    return f"accepted {counts[f'{before}accepted']}, refused {refused}"
+# ---- what is kept
 
 
-def summary(counts):
-    inside = ", ".join(f"{counts[f'{name} in the domain']} {name}" for name in ("hand-made", "generated", "aimed"))
-    return (
-        f"compared {inside} sheets in the domain with both Rust programs, {counts['outside']} outside it with "
-        f"the answers written down ({counts['not judged']} more have no second answer); {verdicts(counts)}; "
-        f"the proved reader with the model on {counts['read']} sheets; {verdicts(counts, 'read and ')}: no difference"
-    )
+STORED_SEED, STORED_COUNT = 20_250_818, 300
+STORED = {
+    "sheets": "Sheets, one a line: printable ASCII stands for itself, every other byte and the backslash is `\\HH`.",
+    "answers": "Answers to sheets.txt: `refused N L`, or `accepted STEPS` and the dump.",
+    "domain": "What the Rust said to each sheet of sheets.txt, or why it was not asked; then where the sheet comes from.",
+}
 
 
-def compare(seed, count, floors):
-    """0 if all agree, else 1; prints the summary or what is wrong."""
-    groups = {"hand-made": judge.hand_made(), "generated": generated(seed, count), "aimed": aimed(seed)}
-    cases = [case for group in groups.values() for case in group]
-    faults = judge.compare(cases) or reader.compare(cases)
-    if faults:
-        print(f"sheets: {len(faults)} of {len(cases)} sheets differ; the smallest:")
-        print(judge.describe(faults[0]))
-        return 1
-    counts = tally(groups)
-    short = shortfall(counts, floors)
-    if short:
-        print(f"sheets: {short}")
-        return 1
-    powi = "powi is 01's power" if judge.powers_agree() else "powi is not 01's power, frequencies of given left out"
-    print(f"sheets: {summary(counts)} (seed {seed}); {powi}")
-    return 0
+def header(what, built):
+    """The lines at the top of a file; they end at the first line that does not begin with `# `."""
+    return [
+        f"# {what}",
+        "# Made by oracle/store from the hand-made list oracle/limits.py and, after it, "
+        f"{STORED_COUNT} sheets of oracle/sheets.py, seed {STORED_SEED}.",
+        "# Number, line and steps are the model's (oracle/model.py); parts, notes and commands "
+        "are those of the Rust with document 01's rules put in.",
+        "# Inside the domain both Rust programs answered every sheet, `err` or the same dump; "
+        "domain.txt says which sheets that are.",
+        VERSION.decode() + built,
+    ]
 
 
-def main(arguments):
-    seed = int(arguments[0]) if arguments else SEED
-    count = int(arguments[1]) if len(arguments) > 1 else COUNT
-    programs.build()
-    return compare(seed, count, {} if len(arguments) > 1 else FLOORS) or store.check() or store_reading.check()
+def domain_of(sheet):
+    if not sheet.in_domain:
+        return f"left out, {judged.OUTSIDE[sheet.number]}"
+    return "rust err" if sheet.number else "rust ok"
 
 
-if __name__ == "__main__":
-    sys.exit(programs.status_of("sheets", lambda: main(sys.argv[1:])))
+def kept():
+    """Every answer inside the domain is what both Rust programs and the model agree on."""
+    generated = judged.generated(STORED_SEED, STORED_COUNT, "generated")
+    sheets, built = judged.hand_made() + generated, build()
+    judged.hold_model(sheets)
+    numbered = list(enumerate(sheets, 1))
+    lines = {
+        "sheets": [sheet.line for sheet in sheets],
+        "answers": [line for number, sheet in numbered for line in (f"sheet {number}", *sheet.answer)],
+        "domain": [f"{number} {domain_of(sheet)}; {sheet.label}" for number, sheet in numbered],
+    }
+    texts = {name: "".join(f"{line}\n" for line in header(what, built) + lines[name]) for name, what in STORED.items()}
+    return {f"oracle/stored/{name}.txt": text.encode("ascii") for name, text in texts.items()} | {
+        "crates/ask_reading/stdin": b"".join(reading.request(sheet.text) for sheet in sheets),
+        "crates/ask_reading/stdout": b"".join(reading.answer(sheet.answer) for sheet in sheets),
+    }

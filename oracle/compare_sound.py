@@ -1,35 +1,21 @@
-"""Compares the proved renderer and WAV writers with the Rust, window by window.
+"""Compares the proved renderer and WAV writers, by the program `ask_engine`, with the Rust, window by window.
 
-    oracle/compare_sound.py [SEED [COUNT]]
-
-COUNT accepted sheets, hand-made and generated, each with windows of samples and of bytes cut at thrown
-places and sizes, empty and one-sample ones among them, with headers, and with each field of the sheet
-put out of range. The Rust has 01's sine, power and order of parts put in. The program `cue` is given the
-same sheets, whose files the Rust has, and as many others, whose refusals the model has. It prints one
-line with the counts; a difference ends it with status 1 and names the sheet and the request.
+Accepted sheets, hand-made and generated, each with windows of samples and of bytes cut at thrown places and sizes, empty and one-sample
+ones among them, with headers, and with each field of the sheet put out of range. The Rust has 01's sine, power and order of parts.
 """
 
-import sys
 from collections import Counter
-from itertools import accumulate, islice
-
-sys.dont_write_bytecode = True
+from itertools import chain
 
 import model
-import programs
 from dice import Dice
-from escaped import escape
-from floors import shortfall
+from harness import Broken, Case, both_at_once, escape, hold, proved, rust
 from sheets import sheets
-from sound import BYTES, HEADER, SAMPLES, Asked, Sound
+from sound_requests import BYTES, HEADER, SAMPLES, Asked, Sound
 
-SEED = 1
 COUNT = 300
 # Longer sheets take the Rust long and show nothing more.
 LONGEST = 120_000
-SECONDS = 60
-PROGRAM = "ask_engine"
-CUE = "cue"
 FLOORS = {
     "sheets": 300,
     "sheets of several parts": 110,
@@ -40,9 +26,10 @@ FLOORS = {
     "refused 28": 2_300,
     "refused 29": 400,
     "refused 30": 2_000,
-    "files of cue": 300,
-    "refusals of cue": 300,
+    "odd but in range": 300,
 }
+ASK = proved("ask_engine")
+STORED_SEED, STORED_SHEETS, STORED_ROOM = 3, 24, 400
 
 HAND_MADE = (
     b"p ;\n",
@@ -59,51 +46,36 @@ MINUS_ZERO = 0x80000000
 ALL = 0xFFFFFFFF
 
 
-class Case:
+class Sounding:
     """An accepted sheet: its text, its parts, notes and instruments, those that have commands, and its sound."""
 
-    def __init__(self, text, sheet, sound):
-        self.text, self.sound = text, sound
+    def __init__(self, text, sheet):
+        self.text, self.length = text, sheet.length()
         self.parts = len(sheet.parts)
         self.notes = [note for part in sheet.parts.values() for note in part.notes]
         self.instruments = len(sheet.instruments)
         self.commanded = [k for k, instrument in enumerate(sheet.instruments) if instrument.commands]
 
-
-def accepted(text):
-    """The model's sheet and its length in samples, or None."""
-    sheet = model.Sheet()
-    try:
-        sheet.read(text)
-    except model.Refused:
-        return None
-    return sheet, max(part.length(sheet.instruments) for part in sheet.parts.values())
+    def sounded(self):
+        """The same with what the Rust makes of it."""
+        self.sound = Sound(*(rust("ruled", mode)(self.text) for mode in ("raw", "wav")))
+        if self.sound.length != self.length:
+            raise Broken(f"ruled has {self.sound.length} samples, the model {self.length}: {escape(self.text)}")
+        return self
 
 
-def sound_of(text, length):
-    """What the Rust makes of a sheet."""
-    answers = []
-    for mode in ("raw", "wav"):
-        program = programs.ROOT / "target" / "oracle" / "ruled"
-        answer, _, trouble = programs.started([program, mode], text, SECONDS)
-        if trouble:
-            raise programs.Broken(f"ruled {mode} {trouble} at the sheet {escape(text)}")
-        answers.append(answer)
-    if len(answers[0]) != 4 * length:
-        raise programs.Broken(f"ruled has {len(answers[0]) // 4} samples, the model {length}: {escape(text)}")
-    return Sound(*answers)
-
-
-def cases(seed, count):
+def accepted(seed, count):
     """Sheets that are accepted and not too long."""
     made = []
-    for text in (*HAND_MADE, *sheets(seed, 40 * count)):
-        found = accepted(text)
-        if found and found[1] <= LONGEST:
-            made.append(Case(text, found[0], sound_of(text, found[1])))
+    for text in chain(HAND_MADE, sheets(seed)):
+        sheet = model.read(text)
+        if isinstance(sheet, model.Sheet) and sheet.length() <= LONGEST:
+            made.append(Sounding(text, sheet))
         if len(made) == count:
-            return made
-    raise programs.Broken(f"only {len(made)} sheets are accepted and short enough")
+            return both_at_once(Sounding.sounded, made)
+
+
+# ---- requests
 
 
 def windows(dice, length):
@@ -121,121 +93,80 @@ def headers(dice):
     return [Asked(HEADER, room=room) for room in (0, 43, 44, 44 + dice.below(99))]
 
 
-def out_of_range(dice, case):
+def out_of_range(dice, sheet):
     """Fields put out of range, each with 28; and what is odd but in range, with None."""
-    part, instrument = dice.below(case.parts), dice.below(case.instruments)
+    part, instrument = dice.below(sheet.parts), dice.below(sheet.instruments)
     yield 28, (1, 0, dice.pick((17, ALL)))
     yield 28, (2, 0, dice.pick((33, ALL)))
     yield 28, (3, part, dice.pick((2049, ALL)))
     yield 28, (6, instrument, dice.pick((NAN, BELOW, MINUS_THREE, MINUS_INFINITY)))
     yield 28, (7, instrument, dice.pick((65, ALL)))
-    yield 28, (8, dice.pick(case.commanded), dice.pick((256, ALL)))
+    yield 28, (8, dice.pick(sheet.commanded), dice.pick((256, ALL)))
     yield None, (6, instrument, MINUS_ZERO)
-    if case.notes:
-        note = dice.below(len(case.notes))
+    if sheet.notes:
+        note = dice.below(len(sheet.notes))
         yield 28, (2, 0, 0)
-        yield 28, (4, note, dice.pick((case.instruments, ALL)))
+        yield 28, (4, note, dice.pick((sheet.instruments, ALL)))
         yield 28, (5, note, dice.pick((NAN, BELOW, MINUS_THREE, MINUS_INFINITY, INFINITY, LONG)))
-        yield 28, (6, case.notes[note][3], dice.pick((INFINITY, LONG)))
+        yield 28, (6, sheet.notes[note][3], dice.pick((INFINITY, LONG)))
         yield None, (5, note, MINUS_ZERO)
 
 
-def damaged(dice, case):
-    for refusal, (field, which, becomes) in out_of_range(dice, case):
+def damaged(dice, sheet):
+    for refusal, (field, which, becomes) in out_of_range(dice, sheet):
         kind = dice.pick((SAMPLES, HEADER, BYTES))
         # Past the length and the buffer too, so that 28 is seen to come first.
-        start = 0 if refusal is None else dice.pick((0, case.sound.length + 1))
+        start = 0 if refusal is None else dice.pick((0, sheet.sound.length + 1))
         yield refusal, Asked(kind, start, dice.pick((0, 5, 60)), 0, field, which, becomes)
 
 
-def requests(seed, case):
+def requests(seed, sheet):
     """Each request with the refusal that it must get: 0 where the Rust's sound decides, None where any sound is right."""
     dice = Dice(seed)
-    sounding = [*windows(dice, case.sound.length), *headers(dice)]
-    return [(0, asked) for asked in sounding] + list(damaged(dice, case))
+    sounding = [*windows(dice, sheet.sound.length), *headers(dice)]
+    return [(0, asked) for asked in sounding] + list(damaged(dice, sheet))
 
 
-def fault_of(case, refusal, asked, answer):
-    """What is wrong with an answer, or nothing."""
+# ---- holding them
+
+
+def case_of(sheet, refusal, asked):
+    wanted = sheet.sound.answer(asked, refusal)
+    number, written = (int.from_bytes(wanted[i : i + 4], "little") for i in (0, 4))
+    kind = ("windows of samples", "headers", "windows of bytes")[asked.kind]
+    counts = {kind: 1, "samples": written if asked.kind != HEADER else 0, f"refused {number}": 1}
+    return Case(f"{escape(sheet.text)}, {asked}", asked.request(sheet.text), wanted, counts)
+
+
+def hold_odd(sheet, asked):
+    """What is odd but in range may sound in any way, but is not refused for what it is."""
+    answer = ASK(asked.request(sheet.text))
     number = int.from_bytes(answer[:4], "little")
-    if refusal is None:
-        return f"refused {number}" if number not in (0, 30) else ""
-    return "" if answer == case.sound.answer(asked, refusal) else f"answered {answer[:24].hex()}.."
+    if len(answer) != asked.size() or number not in (0, 30):
+        raise Broken(f"ask_engine refuses with {number}: {escape(sheet.text)}, {asked}")
 
 
-def answers_of(asked):
-    """The program's answer to each request, or what is wrong with them altogether."""
-    found, trouble = programs.proved(PROGRAM, b"".join(a.request(case.text) for case, _, a in asked), 10 * SECONDS)
-    expected = sum(a.size() for _, _, a in asked)
-    if trouble:
-        raise programs.Broken(f"{PROGRAM} {trouble}")
-    if len(found) != expected:
-        raise programs.Broken(f"{len(found)} bytes of answers, {expected} expected")
-    ends = list(accumulate(a.size() for _, _, a in asked))
-    return [found[end - a.size() : end] for end, (_, _, a) in zip(ends, asked)]
+def all_cases(seed, count):
+    """The sheets, the cases whose answers are known, and the requests that are odd but in range, each with its sheet."""
+    made = accepted(seed, count)
+    asked = [(sheet, *pair) for i, sheet in enumerate(made) for pair in requests(seed + i, sheet)]
+    known = [case_of(*triple) for triple in asked if triple[1] is not None]
+    return made, known, [(sheet, a) for sheet, refusal, a in asked if refusal is None]
 
 
-def refused(seed, count):
-    """Sheets that are refused, each with the line that says so."""
-    told = ((text, model.answer(text)) for text in sheets(~seed, 40 * count))
-    return list(islice(((text, answer[0] + "\n") for text, answer in told if answer[0].startswith("refused")), count))
+def compare(seed, count):
+    made, known, odd = all_cases(seed, count)
+    counts = hold("ask_engine", ASK, known)
+    both_at_once(lambda pair: hold_odd(*pair), odd)
+    several = sum(sheet.parts > 1 for sheet in made)
+    return counts + Counter({"sheets": len(made), "sheets of several parts": several, "odd but in range": len(odd)})
 
 
-def cue_differs(made, others):
-    """What the program `cue` answers otherwise, in words; nothing where all agrees."""
-    wanted = [(case.text, case.sound.wav) for case in made] + [(text, line.encode("ascii")) for text, line in others]
-    for text, answer in wanted:
-        found, trouble = programs.proved(CUE, text, SECONDS)
-        if trouble or found != answer:
-            return f"{CUE} {trouble or 'answers otherwise'} at the sheet {escape(text)}: {found[:60]!r}"
-    return ""
-
-
-def tally(made, asked, answers):
-    """How much was compared, by kind and by refusal."""
-    counts = Counter({"sheets": len(made), "sheets of several parts": sum(case.parts > 1 for case in made)})
-    for (_, _, a), answer in zip(asked, answers):
-        number, written = (int.from_bytes(answer[i : i + 4], "little") for i in (0, 4))
-        counts[("windows of samples", "headers", "windows of bytes")[a.kind]] += 1
-        counts["samples"] += written if a.kind != HEADER else 0
-        counts[f"refused {number}"] += 1
-    return counts
-
-
-def compare(seed, count, floors):
-    """0 if all agree, else 1; prints the counts or what is wrong."""
-    made = cases(seed, count)
-    asked = [(case, *pair) for i, case in enumerate(made) for pair in requests(seed + i, case)]
-    answers = answers_of(asked)
-    faults = [(case, a, wrong) for (case, refusal, a), answer in zip(asked, answers) if (wrong := fault_of(case, refusal, a, answer))]
-    if faults:
-        case, a, wrong = min(faults, key=lambda fault: len(fault[0].text))
-        print(f"sound: {len(faults)} of {len(asked)} answers differ; the smallest sheet: {escape(case.text)}\n{a}: {wrong}")
-        return 1
-    others = refused(seed, count)
-    wrong = cue_differs(made, others)
-    if wrong:
-        print(f"sound: {wrong}")
-        return 1
-    counts = tally(made, asked, answers) + Counter({"files of cue": len(made), "refusals of cue": len(others)})
-    short = shortfall(counts, floors)
-    if short:
-        print(f"sound: {short}")
-        return 1
-    told = ", ".join(f"{counts[what]} {what}" for what in FLOORS)
-    print(f"sound: compared {told}, with the Rust that has 01's sine, power and order of parts: no difference (seed {seed})")
-    return 0
-
-
-def main(arguments):
-    seed = int(arguments[0]) if arguments else SEED
-    count = int(arguments[1]) if len(arguments) > 1 else COUNT
-    programs.build()
-    return compare(seed, count, {} if len(arguments) > 1 else FLOORS) or store_sound.check()
-
-
-if __name__ == "__main__":
-    # Here, since it asks this script for its sheets.
-    import store_sound
-
-    sys.exit(programs.status_of("sound", lambda: main(sys.argv[1:])))
+def kept():
+    """What is kept stays small."""
+    _, known, _ = all_cases(STORED_SEED, STORED_SHEETS)
+    small = [case for case in known if Asked.room_of(case.request) <= STORED_ROOM]
+    return {
+        "crates/ask_engine/stdin": b"".join(case.request for case in small),
+        "crates/ask_engine/stdout": b"".join(case.wanted for case in small),
+    }

@@ -1,7 +1,9 @@
-"""The seeded dice that the sheet generator throws.
+"""The seeded dice of every comparison.
 
-It is SplitMix64, written out so that a seed gives the same sheets under every version of Python.
+It is SplitMix64, written out so that a seed gives the same under every version of Python.
 """
+
+from hashlib import shake_256
 
 MASK = 2**64 - 1
 
@@ -30,3 +32,7 @@ class Dice:
 
     def pick(self, choices):
         return choices[self.below(len(choices))]
+
+    def bytes(self, count):
+        """So many random bytes, faster than word by word."""
+        return shake_256(self.word().to_bytes(8, "little")).digest(count)

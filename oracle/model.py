@@ -3,20 +3,12 @@
 It gives what the Rust does not: the refusal number and line, and the step count. For an
 accepted sheet it also gives parts, notes and commands in the form of the oracle's `notes`, so
 that a misreading of the document shows against the Rust.
-
-    python3 oracle/model.py           one sheet on standard input
-    python3 oracle/model.py batch     escaped sheets, one a line, as the oracle programs take them
 """
-
-import sys
-
-sys.dont_write_bytecode = True
 
 from fractions import Fraction
 
 import rules
-from binary32 import bits
-from escaped import unescape
+from f32 import bits
 from rules import Refused
 
 DEFAULT_OPERATOR = b"1 1 0 0 1 0"
@@ -177,9 +169,12 @@ class Sheet:
             raise Refused(25, 0)
         if any(part.loops for part in self.parts.values()):
             raise Refused(26, 0)
-        longest = max(part.length(self.instruments) for part in self.parts.values())
-        if longest > rules.SHEET_SAMPLES:
+        if self.length() > rules.SHEET_SAMPLES:
             raise Refused(27, 0)
+
+    def length(self):
+        """In samples: the largest end of a sounding note."""
+        return max(part.length(self.instruments) for part in self.parts.values())
 
     def dump(self):
         lines = []
@@ -265,19 +260,18 @@ class Sheet:
     def read_item(self, part, text, at, line, depth):
         """One note, command, mark or macro call; gives the place after it."""
         letter = chr(text[at])
-        if letter == "!":
-            name, end = rules.word_at(text, at)
-            self.call_macro(part, name, line, depth)
-            return end
-        if letter == "@":
-            name, end = rules.word_at(text, at)
-            self.choose_instrument(part, name, line)
-            return end
-        if letter in rules.OFFSETS:
-            return self.read_note(part, text, at, line)
         if letter in "<>[:":
             self.mark(part, letter, line)
             return at + 1
+        if letter in rules.OFFSETS:
+            return self.read_note(part, text, at, line)
+        if letter in "!@":
+            name, end = rules.word_at(text, at)
+            if letter == "!":
+                self.call_macro(part, name, line, depth)
+            else:
+                self.choose_instrument(part, name, line)
+            return end
         return self.read_command(part, letter, text, at + 1, line)
 
     def read_command(self, part, letter, text, at, line):
@@ -394,25 +388,18 @@ class Sheet:
         part.put([(amplitude, rules.frequency(semitone), seconds, index)])
 
 
-def answer(source):
-    """The lines of the answer to a sheet: `refused N L`, or `accepted STEPS` and the dump."""
+def read(source):
+    """The sheet of a source, or its refusal."""
     sheet = Sheet()
     try:
         sheet.read(source)
     except Refused as refusal:
-        return [f"refused {refusal.number} {refusal.line}"]
-    return [f"accepted {sheet.steps}"] + sheet.dump()
+        return refusal
+    return sheet
 
 
-def main(arguments):
-    if arguments == ["batch"]:
-        for number, line in enumerate(sys.stdin.read().splitlines(), 1):
-            print("\n".join([f"sheet {number}"] + answer(unescape(line))))
-    elif not arguments:
-        print("\n".join(answer(sys.stdin.buffer.read())))
-    else:
-        sys.exit("oracle/model.py: the only argument known is `batch`")
-
-
-if __name__ == "__main__":
-    main(sys.argv[1:])
+def answer(found):
+    """What is read in lines: `refused N L`, or `accepted STEPS` and the dump."""
+    if isinstance(found, Refused):
+        return [f"refused {found.number} {found.line}"]
+    return [f"accepted {found.steps}"] + found.dump()

@@ -1,10 +1,10 @@
-//! Requests for numbers and what the Rust answers to them: the other half of
-//! tools/compare/numbers, whose first half is the proved program `ask_numbers`.
-//! crates/ask_numbers/README.md has the form of a request and of an answer.
+//! What the Rust answers to the requests of tools/compare/numbers, whose other half is the proved
+//! program `ask_numbers`: crates/ask_numbers/README.md has the form of both.
 
 use crate::engine::evaluator;
+use crate::engine::note::Note;
 use crate::engine::parser::{self, SEMINOTE_STEP};
-use crate::{bits, frequency, only_note, sine};
+use crate::{bits, word};
 
 pub const DECIMAL: u8 = 1;
 pub const DIGITS32: u8 = 2;
@@ -14,18 +14,6 @@ pub const FREQUENCY: u8 = 5;
 pub const DURATION: u8 = 6;
 pub const LENGTH: u8 = 7;
 pub const SINES: u8 = 8;
-
-const KINDS: [&str; 9] = [
-    "of no kind",
-    "decimal texts",
-    "digit runs to 2^32 - 1",
-    "digit runs to 2^64 - 1",
-    "sines",
-    "frequencies",
-    "durations",
-    "lengths",
-    "ranges of sines",
-];
 
 /// The most bytes that a request's text has.
 pub const TEXT: usize = 29;
@@ -52,9 +40,8 @@ impl Request {
     pub fn of_words(kind: u8, words: &[u32]) -> Self {
         let mut bytes = [0; 32];
         bytes[0] = kind;
-        for (i, word) in words.iter().enumerate() {
-            bytes[4 + 4 * i..8 + 4 * i].copy_from_slice(&word.to_le_bytes());
-        }
+        let numbers = words.iter().flat_map(|w| w.to_le_bytes());
+        bytes[4..].iter_mut().zip(numbers).for_each(|(b, n)| *b = n);
         Request(bytes)
     }
 
@@ -73,25 +60,12 @@ impl Request {
 
     /// Number i of the request's numbers.
     fn word(&self, i: usize) -> u32 {
-        let at = 4 + 4 * i;
-        u32::from_le_bytes(self.0[at..at + 4].try_into().unwrap())
+        word(&self.0, 4 + 4 * i)
     }
 
     fn float(&self, i: usize) -> f32 {
         f32::from_bits(self.word(i))
     }
-}
-
-pub fn of_bytes(bytes: &[u8]) -> Vec<Request> {
-    let request = |c: &[u8]| Request(c.try_into().unwrap());
-    bytes.chunks_exact(32).map(request).collect()
-}
-
-#[derive(Clone, Copy)]
-struct Answer {
-    tag: u32,
-    value: u64,
-    place: u32,
 }
 
 const NO_SUCH_KIND: Answer = tagged(0);
@@ -101,45 +75,31 @@ const NOT_A_NUMBER: Answer = tagged(4);
 const NEGATIVE: Answer = tagged(5);
 const TOO_MANY: Answer = tagged(6);
 
+/// Tag, value and place.
+type Answer = (u32, u64, u32);
+
 const fn tagged(tag: u32) -> Answer {
-    Answer {
-        tag,
-        value: 0,
-        place: 0,
-    }
+    (tag, 0, 0)
 }
 
 fn value(value: u64, place: usize) -> Answer {
-    Answer {
-        tag: 1,
-        value,
-        place: place as u32,
-    }
+    (1, value, place as u32)
 }
 
 fn float(x: f32) -> Answer {
     value(bits(x) as u64, 0)
 }
 
-impl Answer {
-    fn bytes(self) -> Vec<u8> {
-        let (tag, value, place) = (self.tag, self.value, self.place);
-        [
-            &tag.to_le_bytes()[..],
-            &value.to_le_bytes()[..],
-            &place.to_le_bytes()[..],
-        ]
-        .concat()
-    }
-}
-
-/// The answers to a file of requests.
+/// The requests are of 32 bytes each.
 pub fn answers(bytes: &[u8]) -> Vec<u8> {
-    let request = |c: &[u8]| Request(c.try_into().unwrap());
-    bytes
-        .chunks_exact(32)
-        .flat_map(|c| answer(&request(c)).bytes())
-        .collect()
+    let mut out = Vec::with_capacity(bytes.len() / 2);
+    for request in bytes.chunks_exact(32) {
+        let (tag, value, place) = answer(&Request(request.try_into().unwrap()));
+        out.extend(tag.to_le_bytes());
+        out.extend(value.to_le_bytes());
+        out.extend(place.to_le_bytes());
+    }
+    out
 }
 
 fn answer(r: &Request) -> Answer {
@@ -148,13 +108,11 @@ fn answer(r: &Request) -> Answer {
         DIGITS32 => digits(parser::eat_int::<u32>(r.text(), r.place())),
         DIGITS64 => digits(parser::eat_int::<u64>(r.text(), r.place())),
         SINE => float(sine(r.float(0))),
-        FREQUENCY => float(any_frequency(r.word(0))),
-        DURATION => float(duration(
-            r.word(0),
-            r.word(1),
-            r.word(2),
-            r.word(3) & 0xff != 0,
-        )),
+        FREQUENCY => float(frequency(r.word(0))),
+        DURATION => {
+            let dotted = r.word(3) & 0xff != 0;
+            float(duration(r.word(0), r.word(1), r.word(2), dotted))
+        }
         LENGTH => length(r.float(0), r.word(1)),
         SINES => value(sines(r.word(0), r.word(1)), 0),
         _ => NO_SUCH_KIND,
@@ -180,12 +138,33 @@ fn digits<T: Into<u64>>(found: (Option<T>, usize)) -> Answer {
     }
 }
 
-/// Where a sheet can have the semitone the engine is asked; elsewhere its words are repeated here.
-fn any_frequency(s: u32) -> f32 {
-    match s {
-        10..=109 => frequency(s as usize),
-        _ => 440.0 * power(SEMINOTE_STEP, s as i32 - 57),
+#[cfg(ruled)]
+fn sine(x: f32) -> f32 {
+    crate::ruled::turn_sine(x)
+}
+
+#[cfg(not(ruled))]
+fn sine(x: f32) -> f32 {
+    x.sin()
+}
+
+/// Where a sheet can have the semitone the engine is asked, by a sheet of one note, since a power worked
+/// out here could be folded by the compiler; elsewhere its words are repeated.
+fn frequency(s: u32) -> f32 {
+    const NAMES: [&str; 16] = [
+        "c--", "c-", "c", "c+", "d", "d+", "e", "f", "f+", "g", "g+", "a", "a+", "b", "b+", "b++",
+    ];
+    if !(10..=109).contains(&s) {
+        return 440.0 * power(SEMINOTE_STEP, s as i32 - 57);
     }
+    let octave = (s / 12).clamp(1, 8);
+    let name = NAMES[(s + 2 - 12 * octave) as usize];
+    only_note(&format!("p o{octave}{name}")).frequency
+}
+
+fn only_note(sheet: &str) -> Note {
+    let info = parser::parse(sheet).unwrap_or_else(|e| crate::fail(&e));
+    crate::parts(&info)[0].1[0].clone()
 }
 
 #[cfg(ruled)]
@@ -205,7 +184,11 @@ fn duration(tempo: u32, denom: u32, value: u32, dotted: bool) -> f32 {
         return only_note(&format!("#tempo {tempo}\n#denom {denom}\np c{value}{dot}")).duration;
     }
     let duration = (60.0 / tempo as f32) * (denom as f32 / value as f32);
-    if dotted { duration * 1.5 } else { duration }
+    if dotted {
+        duration * 1.5
+    } else {
+        duration
+    }
 }
 
 /// At the engine's rate the engine is asked; at others its words are repeated here.
@@ -231,100 +214,4 @@ fn sines(start: u32, count: u32) -> u64 {
     (0..count).fold(0, |sum, i| {
         (sum * 7_368_787 + bits(sine(pattern(i))) as u64) % 1_099_511_627_689
     })
-}
-
-// In words.
-
-/// A line `N KIND` for each kind of request to which two whole answers came that are the same.
-pub fn counts(requests: &[u8], expected: &[u8], found: &[u8]) -> String {
-    let mut alike = [0; KINDS.len()];
-    let answers = expected.chunks_exact(16).zip(found.chunks_exact(16));
-    for (r, (one, other)) in of_bytes(requests).iter().zip(answers) {
-        if one == other {
-            alike[known(r.kind())] += 1;
-        }
-    }
-    let lines = alike.iter().zip(KINDS).filter(|(n, _)| **n > 0);
-    lines.map(|(n, kind)| format!("{n} {kind}\n")).collect()
-}
-
-fn known(kind: u8) -> usize {
-    if (kind as usize) < KINDS.len() {
-        kind as usize
-    } else {
-        0
-    }
-}
-
-/// The smallest request whose two answers differ, with both answers, and how many differ.
-pub fn difference(requests: &[u8], expected: &[u8], found: &[u8]) -> String {
-    let asked = of_bytes(requests);
-    let pairs: Vec<_> = expected.chunks(16).zip(found.chunks(16)).collect();
-    let apart: Vec<_> = (0..pairs.len())
-        .filter(|k| pairs[*k].0 != pairs[*k].1)
-        .collect();
-    let Some(&k) = apart
-        .iter()
-        .min_by_key(|k| (asked[**k].0[0], asked[**k].0[1]))
-    else {
-        return format!(
-            "{} answers, {} expected",
-            found.len() / 16,
-            expected.len() / 16
-        );
-    };
-    let (rust, ours) = pairs[k];
-    format!(
-        "{} requests differ; the smallest, number {k}: {}\n  the Rust: {}\n  found:    {}",
-        apart.len(),
-        request_in_words(&asked[k]),
-        answer_in_words(rust),
-        answer_in_words(ours)
-    )
-}
-
-fn request_in_words(r: &Request) -> String {
-    let float = |i| format!("{:08x} ({:e})", r.word(i), r.float(i));
-    match r.kind() {
-        DECIMAL | DIGITS32 | DIGITS64 => {
-            format!(
-                "{}: {:?} at {}",
-                KINDS[known(r.kind())],
-                r.text(),
-                r.place()
-            )
-        }
-        SINE => format!("sine of {}", float(0)),
-        FREQUENCY => format!("frequency of {}", r.word(0)),
-        DURATION => {
-            let (tempo, denom, value) = (r.word(0), r.word(1), r.word(2));
-            format!(
-                "duration at tempo {tempo}, denominator {denom}, value {value}, dot {}",
-                r.word(3)
-            )
-        }
-        LENGTH => format!("length of {} at the rate {}", float(0), r.word(1)),
-        SINES => format!("sines of {} patterns from {:08x} on", r.word(1), r.word(0)),
-        kind => format!("no such kind: {kind}"),
-    }
-}
-
-fn answer_in_words(bytes: &[u8]) -> String {
-    if bytes.len() < 16 {
-        return "cut short".to_string();
-    }
-    let tag = u32::from_le_bytes(bytes[..4].try_into().unwrap());
-    let value = u64::from_le_bytes(bytes[4..12].try_into().unwrap());
-    let place = u32::from_le_bytes(bytes[12..].try_into().unwrap());
-    let names = [
-        "no such kind",
-        "value",
-        "no number",
-        "too long",
-        "not a number",
-        "negative",
-        "too many",
-    ];
-    let name = names.get(tag as usize).unwrap_or(&"no such tag");
-    format!("{name} {value} ({value:08x}), place {place}")
 }

@@ -13,7 +13,7 @@ import sys
 from pathlib import Path
 
 # Our own files that both programs are made of; the first is their main file.
-FRONT = {"front.rs": "main.rs", "numbers.rs": "numbers.rs", "asked.rs": "asked.rs"}
+FRONT = {"front.rs": "main.rs"} | {name: name for name in ("numbers.rs", "instruments.rs", "thrown.rs")}
 
 # Each change: file, text, what replaces it, how often the text must be there.
 OPEN = [

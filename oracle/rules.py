@@ -8,7 +8,7 @@ from fractions import Fraction
 from functools import lru_cache
 from math import ceil
 
-from binary32 import near
+from f32 import near
 
 # Capacities.
 SOURCE_BYTES = 32_768

@@ -2,16 +2,9 @@
 
 About half are meant to be accepted, a third carry one fault meant for a given refusal number,
 and the rest are damaged copies. What a sheet's answer really is, the model says.
-
-    python3 oracle/sheets.py SEED COUNT     prints the sheets in their escaped form, one a line
 """
 
-import sys
-
-sys.dont_write_bytecode = True
-
 from dice import Dice
-from escaped import escape
 from faults import FAULTS
 from good_sheet import GoodSheet
 
@@ -77,18 +70,8 @@ def one_sheet(dice):
     return damage(dice, GoodSheet(dice).finished())
 
 
-def sheets(seed, count):
-    """The sheets of a seed; a longer list starts with the shorter one."""
+def sheets(seed):
+    """The sheets of a seed, without end."""
     dice = Dice(seed)
-    return [one_sheet(Dice(dice.word())) for _ in range(count)]
-
-
-def main(arguments):
-    if len(arguments) != 2:
-        sys.exit("oracle/sheets.py: two arguments are needed, SEED and COUNT")
-    for sheet in sheets(*map(int, arguments)):
-        print(escape(sheet))
-
-
-if __name__ == "__main__":
-    main(sys.argv[1:])
+    while True:
+        yield one_sheet(Dice(dice.word()))

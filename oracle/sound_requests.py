@@ -32,6 +32,10 @@ class Asked:
         """How many bytes the answer takes."""
         return 8 + self.room * len(PATTERN[self.kind])
 
+    @staticmethod
+    def room_of(request):
+        return struct.unpack_from("<8I", request)[6]
+
 
 def one_nan(raw):
     """Samples with one bit pattern for every NaN."""

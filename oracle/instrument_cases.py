@@ -1,13 +1,18 @@
-"""The cases that tools/compare/instrument asks about, most of them thrown by seeded dice.
+"""The instruments that tools/compare/instrument asks about, most of them thrown by seeded dice, and the questions.
 
 Instruments from every accepted shape of indented lines, from commands in any order, and operators
 over a grid of special numbers; each at times around the corners of its envelopes, and some in
-stretches of samples.
+stretches of samples. The records are those of crates/ask_instrument/README.md.
 """
 
-from bits32 import INFINITY, NAN, ONE, SIGN, above, add, below
-from asked import NOTE_MOST, Case, Instrument, Operator, Run, Stack, Stretch, Value
+import struct
+from typing import NamedTuple, Optional
 
+from f32 import INFINITY, NAN, ONE, SIGN, above, add, below
+
+# A note has at most so many samples.
+NOTE_MOST = 1 << 24
+RESET, OPERATOR, STACK, SET_COUNT, VALUE, STRETCH, RUN = range(1, 8)
 HALF, TWO, EIGHT = 0x3F00_0000, 0x4000_0000, 0x4100_0000
 # 1/128, and 512: longer than 2^24 samples at any usual rate.
 SMALL, LONG = 0x3C00_0000, 0x4400_0000
@@ -20,6 +25,101 @@ SPECIAL += (0, SMALLEST, 0x0080_0000, HALF, ONE, LARGEST, INFINITY, NAN)
 GRID = (SIGN | INFINITY, SIGN | ONE, SIGN, 0, SMALLEST, HALF, ONE, EIGHT, LARGEST, INFINITY, NAN)
 HUGE = (2**32 - 1, 2**32, 2**63, 2**64 - 1)
 RATES = (44100, 44100, 44100, 44100, 44100, 48000, 8000, 1, 0, 3, 2**24 + 1, 2**32 - 1)
+
+
+# ---- records
+
+
+def record(kind, *numbers):
+    return struct.pack(f"<{1 + len(numbers)}I", kind, *numbers).ljust(32, b"\0")
+
+
+def long_record(kind, number):
+    return record(kind, number % 2**32, number >> 32)
+
+
+class Operator(NamedTuple):
+    """The bits of six floats, and the feedback."""
+
+    amplitude: int
+    freqratio: int
+    attack: int
+    decay: int
+    sustain: int
+    release: int
+    feedback: int
+
+    def record(self):
+        return record(OPERATOR, *self)
+
+
+class Stack(NamedTuple):
+    number: int
+
+    def record(self):
+        return long_record(STACK, self.number)
+
+
+class Instrument(NamedTuple):
+    """Commands, and a count where it is not their number."""
+
+    commands: tuple
+    count: Optional[int] = None
+
+    def records(self):
+        parts = [record(RESET)] + [command.record() for command in self.commands]
+        return b"".join(parts + ([] if self.count is None else [long_record(SET_COUNT, self.count)]))
+
+
+class Value(NamedTuple):
+    """The value at a time."""
+
+    f: int
+    d: int
+    t: int
+
+    def record(self):
+        return record(VALUE, *self)
+
+    def size(self):
+        """How many numbers the answer has, and how many values of the instrument are in it."""
+        return 1, 1
+
+
+class Stretch(NamedTuple):
+    """A stretch of samples in a slice: added to its first elements, stored in the later ones."""
+
+    amplitude: int
+    f: int
+    d: int
+    rate: int
+    first: int
+    added: int
+    length: int
+
+    def record(self):
+        return record(STRETCH, *self)
+
+    def size(self):
+        return 1 + self.length, min(self.length, max(NOTE_MOST - self.first, 0))
+
+
+class Run(NamedTuple):
+    """Stretches one after the other, the last of which is answered; all are within a note."""
+
+    amplitude: int
+    f: int
+    d: int
+    rate: int
+    first: int
+    times: int
+    length: int
+
+    def record(self):
+        return record(RUN, *self)
+
+    def size(self):
+        return self.length, self.length
 
 
 # ---- numbers
@@ -150,7 +250,7 @@ def stretch(dice, notes):
     return Stretch(amplitude, f, d, dice.pick(RATES), first, added, length)
 
 
-# ---- cases
+# ---- instruments with questions
 
 
 def shaped(dice, notes, turns):
@@ -158,14 +258,14 @@ def shaped(dice, notes, turns):
     for shape in shapes(MOST_LINES):
         for turn in range(turns):
             operators = [KINDS[turn % len(KINDS)](dice) for _ in shape]
-            yield Case(from_lines(shape, operators), values(dice, notes, operators, 6))
+            yield (from_lines(shape, operators), values(dice, notes, operators, 6))
 
 
 def disordered(dice, notes, count):
     for _ in range(count):
         instrument = any_commands(dice)
         operators = [c for c in instrument.commands if isinstance(c, Operator)]
-        yield Case(instrument, values(dice, notes, operators[:1], 6))
+        yield (instrument, values(dice, notes, operators[:1], 6))
 
 
 def gridded(dice, notes):
@@ -176,7 +276,7 @@ def gridded(dice, notes):
                 op = plain(dice)._replace(attack=attack, decay=decay, release=release)
                 f = dice.pick(notes)
                 instrument = Instrument((steady(dice), op))
-                yield Case(instrument, [Value(f, d, t) for d in GRID for t in GRID])
+                yield (instrument, [Value(f, d, t) for d in GRID for t in GRID])
 
 
 def fed_back(dice, notes):
@@ -184,7 +284,7 @@ def fed_back(dice, notes):
     for rounds in list(range(9)) + [255]:
         for _ in range(8):
             op = dice.pick(KINDS + (steady,) * 4)(dice)._replace(feedback=rounds)
-            yield Case(Instrument((op,)), values(dice, notes, [op], 6))
+            yield (Instrument((op,)), values(dice, notes, [op], 6))
 
 
 def stretched(dice, notes, count):
@@ -198,12 +298,12 @@ def stretched(dice, notes, count):
         if dice.chance(8):
             near = questions[0]
             questions.append(Run(*near[:4], dice.below(50_000), dice.between(1, 5), near.length))
-        yield Case(instrument, questions)
+        yield (instrument, questions)
 
 
-def thrown(dice, notes):
-    """All cases of a run, some 700,000 values."""
-    found = list(shaped(dice, notes, 12))
+def thrown(dice, notes, turns):
+    """All instruments of a run with their questions, some 700,000 values at twelve turns."""
+    found = list(shaped(dice, notes, turns))
     found += disordered(dice, notes, 3_000)
     found += gridded(dice, notes)
     found += fed_back(dice, notes)
@@ -211,7 +311,7 @@ def thrown(dice, notes):
     return found
 
 
-# ---- chosen cases
+# ---- chosen ones
 
 
 # The operator `1 1 0 0 1 0`, and 1 Hz for a second, an eighth of a second in: the worked examples of
@@ -221,23 +321,23 @@ EIGHTH = Value(ONE, ONE, 0x3E00_0000)
 A = 0x43DC_0000  # 440 Hz
 
 
-def samples():
-    """A few dozen cases that show each kind of record; crates/ask_instrument keeps them."""
+def chosen():
+    """A few that show each kind of record; crates/ask_instrument keeps them."""
     wave = Operator(HALF, TWO, SMALL, HALF, HALF, ONE, 1)
     tree = from_lines((0, 1, 2, 1), (UNIT, wave, UNIT._replace(feedback=3), wave))
     odd_stages = Operator(SIGN | ONE, NAN, SIGN | HALF, 0, INFINITY, SMALLEST, 2)
     sounding = [Value(A, ONE, t) for t in corners([wave], ONE)]
     part = Stretch(HALF, A, ONE, 44100, 0, 5, 12)
     return [
-        Case(Instrument(()), [EIGHTH, part]),
-        Case(from_lines((0, 1, 1), (UNIT,) * 3), [EIGHTH]),
-        Case(tree, sounding + [part, part._replace(first=NOTE_MOST - 7, d=LONG)]),
-        Case(Instrument((wave,)), sounding + [Run(*part[:5], 3, 12), part._replace(rate=0)]),
-        Case(Instrument((wave._replace(feedback=255),)), sounding[-4:]),
-        Case(Instrument((odd_stages,)), [Value(A, ONE, t) for t in SPECIAL]),
-        Case(Instrument((UNIT, Stack(0), UNIT, UNIT)), [EIGHTH]),
-        Case(Instrument((Stack(2**64 - 1), UNIT, Stack(1), wave, wave, wave)), sounding[3:6]),
-        Case(Instrument((UNIT, wave), 1), [EIGHTH]),
-        Case(Instrument((UNIT, wave), 3), [EIGHTH]),
-        Case(Instrument((wave,) * 64, 2**64 - 1), sounding[3:6] + [part._replace(first=2**32 - 1)]),
+        (Instrument(()), [EIGHTH, part]),
+        (from_lines((0, 1, 1), (UNIT,) * 3), [EIGHTH]),
+        (tree, sounding + [part, part._replace(first=NOTE_MOST - 7, d=LONG)]),
+        (Instrument((wave,)), sounding + [Run(*part[:5], 3, 12), part._replace(rate=0)]),
+        (Instrument((wave._replace(feedback=255),)), sounding[-4:]),
+        (Instrument((odd_stages,)), [Value(A, ONE, t) for t in SPECIAL]),
+        (Instrument((UNIT, Stack(0), UNIT, UNIT)), [EIGHTH]),
+        (Instrument((Stack(2**64 - 1), UNIT, Stack(1), wave, wave, wave)), sounding[3:6]),
+        (Instrument((UNIT, wave), 1), [EIGHTH]),
+        (Instrument((UNIT, wave), 3), [EIGHTH]),
+        (Instrument((wave,) * 64, 2**64 - 1), sounding[3:6] + [part._replace(first=2**32 - 1)]),
     ]

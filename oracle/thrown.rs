@@ -1,22 +1,24 @@
-//! The requests that are put to the Rust and to the proved program: a few chosen ones, which are
-//! stored with their answers, and many that seeded dice throw, most of them near a limit.
+//! Requests for tools/compare/numbers, most of them near a limit or a tie. What the dice show is read
+//! off random bytes, so that a run has one source of chance: oracle/dice.py.
 
 use crate::numbers::*;
 use std::f64::consts::PI;
 
-/// SplitMix64, as oracle/dice.py has it.
-struct Dice(u64);
+/// Dice that show what is written on a tape of random bytes.
+struct Dice<'a>(&'a [u8]);
 
-impl Dice {
-    fn word(&mut self) -> u64 {
-        self.0 = self.0.wrapping_add(0x9E37_79B9_7F4A_7C15);
-        let z = (self.0 ^ (self.0 >> 30)).wrapping_mul(0xBF58_476D_1CE4_E5B9);
-        let z = (z ^ (z >> 27)).wrapping_mul(0x94D0_49BB_1331_11EB);
-        z ^ (z >> 31)
+/// No request throws the dice more often.
+const THROWS: usize = 48;
+
+impl Dice<'_> {
+    fn word(&mut self) -> u32 {
+        let word = crate::word(self.0, 0);
+        self.0 = &self.0[4..];
+        word
     }
 
     fn below(&mut self, limit: u64) -> u64 {
-        self.word() % limit
+        self.word() as u64 % limit
     }
 
     fn between(&mut self, least: u64, most: u64) -> u64 {
@@ -34,23 +36,18 @@ impl Dice {
     /// A number of 32 bits in which every size is as likely as any other.
     fn sized(&mut self) -> u32 {
         let size = self.below(33);
-        (self.word() & ((1 << size) - 1)) as u32
+        (self.word() as u64 & ((1 << size) - 1)) as u32
     }
 }
 
-/// As many thrown requests as the count says, with every frequency and some ranges of sines.
-pub fn requests(seed: u64, count: u64) -> Vec<u8> {
-    let dice = &mut Dice(seed);
-    let mut all = frequencies(dice);
-    all.extend((0..count).map(|_| thrown(dice)));
-    all.extend((0..64).map(|_| Request::of_words(SINES, &[dice.word() as u32, 0x1_0000])));
-    all.iter().flat_map(|r| r.0).collect()
-}
-
-/// Ranges of 2^log2 bit patterns each, from `start` on.
-pub fn sine_ranges(start: u64, log2: u64, count: u64) -> Vec<u8> {
-    let range = |k| Request::of_words(SINES, &[(start + (k << log2)) as u32, 1 << log2]);
-    (0..count).flat_map(|k| range(k).0).collect()
+/// As many requests as the tape is long enough for.
+pub fn requests(tape: &[u8]) -> Vec<u8> {
+    let dice = &mut Dice(tape);
+    let mut all = Vec::new();
+    while dice.0.len() >= 4 * THROWS {
+        all.extend(thrown(dice).0);
+    }
+    all
 }
 
 /// Of 16 requests ten are decimals: rounding is where most can go wrong.
@@ -63,13 +60,6 @@ fn thrown(dice: &mut Dice) -> Request {
         15 => length(dice),
         _ => decimal(dice),
     }
-}
-
-/// All that a sheet can have, more below and above, and some up to what the Rust's i32 holds.
-fn frequencies(dice: &mut Dice) -> Vec<Request> {
-    let far = (0..1000).map(|_| dice.sized() >> 1).collect::<Vec<_>>();
-    let all = (0..1000).chain(far);
-    all.map(|s| Request::of_words(FREQUENCY, &[s])).collect()
 }
 
 // Texts.
@@ -188,11 +178,10 @@ fn printed(dice: &mut Dice) -> String {
 fn digit_run(dice: &mut Dice, kind: u8, limit: u128) -> Request {
     let number = match dice.below(4) {
         0 => (limit - 4 + dice.below(8) as u128).to_string(),
-        1 => format!(
-            "{}{}",
-            "0".repeat(dice.between(1, 5) as usize),
-            limit - 2 + dice.below(4) as u128
-        ),
+        1 => {
+            let zeros = "0".repeat(dice.between(1, 5) as usize);
+            zeros + &(limit - 2 + dice.below(4) as u128).to_string()
+        }
         2 => (0..dice.below(22)).map(|_| digit(dice)).collect(),
         _ => return free_text(dice, kind),
     };
@@ -217,11 +206,11 @@ fn free_text(dice: &mut Dice, kind: u8) -> Request {
 // Floats.
 
 fn any_pattern(dice: &mut Dice) -> u32 {
-    let special = [
+    const SPECIAL: [u32; 12] = [
         0,
         1,
-        0x007f_ffff,
-        0x0080_0000,
+        0x7f_ffff,
+        0x80_0000,
         0x3f80_0000,
         0x4f00_0000,
         0x4b80_0000,
@@ -232,17 +221,15 @@ fn any_pattern(dice: &mut Dice) -> u32 {
         0x7fff_ffff,
     ];
     match dice.below(4) {
-        0 => dice.pick(&special) ^ (dice.below(2) as u32) << 31,
-        _ => dice.word() as u32,
+        0 => dice.pick(&SPECIAL) ^ (dice.below(2) as u32) << 31,
+        _ => dice.word(),
     }
 }
 
 /// The next pattern or one of its neighbours.
 fn beside(dice: &mut Dice, x: f64) -> u32 {
-    let pattern = (x as f32)
-        .to_bits()
-        .wrapping_add(dice.below(5) as u32)
-        .wrapping_sub(2);
+    let steps = dice.below(5) as u32;
+    let pattern = (x as f32).to_bits().wrapping_add(steps).wrapping_sub(2);
     pattern ^ (dice.below(2) as u32) << 31
 }
 
@@ -250,11 +237,7 @@ fn beside(dice: &mut Dice, x: f64) -> u32 {
 fn sine_pattern(dice: &mut Dice) -> u32 {
     match dice.below(4) {
         0 => any_pattern(dice),
-        1 => {
-            (dice.between(95, 160) << 23) as u32
-                + (dice.word() >> 41) as u32
-                + ((dice.below(2) as u32) << 31)
-        }
+        1 => (dice.between(95, 160) as u32) << 23 | dice.word() & 0x807f_ffff,
         2 => {
             let quarters = dice.sized();
             beside(dice, quarters as f64 * PI / 2.0)
@@ -268,15 +251,15 @@ fn sine_pattern(dice: &mut Dice) -> u32 {
 
 /// Half of them as a sheet can have them.
 fn duration(dice: &mut Dice) -> Request {
-    let (tempo, denom, value) = if dice.chance(2) {
-        (
-            dice.between(1, 1000) as u32,
-            dice.between(1, 128) as u32,
-            dice.between(1, 128) as u32,
-        )
-    } else {
-        (dice.sized(), dice.sized(), dice.sized())
+    let said = dice.chance(2);
+    let mut figure = |most| {
+        if said {
+            dice.between(1, most) as u32
+        } else {
+            dice.sized()
+        }
     };
+    let (tempo, denom, value) = (figure(1000), figure(128), figure(128));
     Request::of_words(DURATION, &[tempo, denom, value, dice.below(2) as u32])
 }
 
@@ -291,76 +274,3 @@ fn length(dice: &mut Dice) -> Request {
     };
     Request::of_words(LENGTH, &[seconds, rate])
 }
-
-// The chosen requests.
-
-/// A few dozen that show each answer, and each rule that is easy to get wrong.
-pub fn samples() -> Vec<u8> {
-    let mut all = Vec::new();
-    for text in DECIMALS {
-        all.push(Request::of_text(DECIMAL, text, 0));
-    }
-    all.push(Request::of_text(DECIMAL, "v0.50 c", 1));
-    all.push(Request::of_text(DECIMAL, "12", 9));
-    for text in ["0", "007x", "4294967295", "4294967296", "x", ""] {
-        all.push(Request::of_text(DIGITS32, text, 0));
-    }
-    for text in [
-        "]18446744073709551615",
-        "]18446744073709551616",
-        "]000018446744073709551615",
-    ] {
-        all.push(Request::of_text(DIGITS64, text, 1));
-    }
-    for x in [
-        0.0,
-        -0.0,
-        1.0,
-        -1.0,
-        440.0,
-        1e9,
-        2147483648.0,
-        f32::INFINITY,
-        f32::NAN,
-    ] {
-        all.push(Request::of_words(SINE, &[x.to_bits()]));
-    }
-    for s in [10, 57, 58, 109] {
-        all.push(Request::of_words(FREQUENCY, &[s]));
-    }
-    for words in [
-        [100, 4, 4, 0],
-        [100, 4, 4, 1],
-        [1000, 1, 128, 1],
-        [0, 0, 0, 0],
-    ] {
-        all.push(Request::of_words(DURATION, &words));
-    }
-    for x in [0.6, 0.5, 0.0, -0.0, -1.0, 380.43573, 380.4358, f32::NAN] {
-        all.push(Request::of_words(LENGTH, &[f32::to_bits(x), 44100]));
-    }
-    all.push(Request::of_words(SINES, &[0x3f80_0000, 256]));
-    all.push(Request::of_words(99, &[]));
-    all.iter().flat_map(|r| r.0).collect()
-}
-
-const DECIMALS: [&str; 18] = [
-    "0,7",
-    "1e3",
-    ".5",
-    "5.",
-    "",
-    "0.7",
-    "00.70",
-    "1.00000001",
-    "1.0000001",
-    "16777217",
-    "16777219",
-    "16777217.0000000001",
-    "8388608.5",
-    "0.00000000000000001",
-    "999999999999999999",
-    "1234567890123456789",
-    "0.123456789012345678",
-    "1234567890123456789.",
-];
