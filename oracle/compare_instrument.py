@@ -9,7 +9,7 @@ import struct
 from fractions import Fraction
 
 import instrument_cases as cases
-from compare_numbers import FREQUENCY, SINE, of_numbers
+from compare_numbers import SINE, frequencies, of_numbers
 from dice import Dice
 from f32 import near, pattern
 from harness import ROOT, Broken, Case, hold, proved, rust
@@ -110,15 +110,9 @@ def check_examples():
 # ---- the comparison
 
 
-def frequencies():
-    """The bits of the frequency of every semitone that a note can have."""
-    answers = NUMBERS(b"".join(of_numbers(FREQUENCY, s) for s in range(10, 110)))
-    return [bits for _, bits, _ in struct.iter_unpack("<IQI", answers)]
-
-
 def compare(seed, count):
     check_examples()
-    return hold("ask_instrument", ASK, answered(cases.thrown(Dice(seed), frequencies(), count)))
+    return hold("ask_instrument", ASK, answered(cases.thrown(Dice(seed), frequencies("ruled"), count)))
 
 
 def kept():

@@ -20,6 +20,7 @@ KINDS = {
     8: "ranges of sines",
 }
 DECIMAL, DIGITS32, DIGITS64, SINE, FREQUENCY, DURATION, LENGTH, SINES = KINDS
+SEMITONES = range(10, 110)
 COUNT = 6_400_000
 FLOORS = dict(zip(KINDS.values(), (3_200_000, 320_000, 320_000, 640_000, 1_600, 320_000, 320_000, 50)))
 # So many are thrown and asked together, from so many bytes of the dice for each: on the average a request takes 45.
@@ -41,6 +42,12 @@ def in_words(request):
     if kind in (DECIMAL, DIGITS32, DIGITS64):
         return f"{KINDS[kind]}, {request[3 : 3 + length]!r} at {place}"
     return f"{KINDS.get(kind, 'no such kind')}, " + " ".join(f"{n:08x}" for n in struct.unpack_from("<4I", request, 4))
+
+
+def frequencies(name):
+    """The bits of the frequency of every semitone that a note can have, as a Rust program has them."""
+    answers = rust(name, "numbers")(b"".join(of_numbers(FREQUENCY, s) for s in SEMITONES))
+    return [bits for _, bits, _ in struct.iter_unpack("<IQI", answers)]
 
 
 class Block(Case):

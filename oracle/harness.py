@@ -18,9 +18,9 @@ from concurrent.futures import ThreadPoolExecutor
 from functools import lru_cache
 from importlib import import_module
 from pathlib import Path
+from threading import Timer
 
 ROOT = Path(__file__).resolve().parent.parent
-NAMES = ("numbers", "wave", "instrument", "sheets", "sound", "cue")
 SEED = 1
 SECONDS = 120
 # Another compiler that gives the same answers is no difference.
@@ -62,7 +62,8 @@ def build():
 
 def rust(name, mode):
     """Asks one of the Rust programs, `given` or `ruled`."""
-    return lambda text: started(f"{name} {mode}", [ROOT / "target" / "oracle" / name, mode], text)
+    where = lambda text: f" at the sheet {escape(text)}" if mode in ("wav", "raw") else ""
+    return lambda text: started(f"{name} {mode}{where(text)}", [ROOT / "target" / "oracle" / name, mode], text)
 
 
 @lru_cache(maxsize=None)
@@ -78,8 +79,10 @@ def proved(name):
 
 
 def first_of(what, command, text, count):
-    """The first bytes that a command writes, which is then ended."""
+    """The first bytes that a command writes, which is then ended; fewer where it ends itself or takes too long."""
     with subprocess.Popen(command, stdin=subprocess.PIPE, stdout=subprocess.PIPE) as child:
+        late = Timer(SECONDS, child.kill)
+        late.start()
         try:
             child.stdin.write(text)
             child.stdin.close()
@@ -87,13 +90,19 @@ def first_of(what, command, text, count):
         except BrokenPipeError:
             raise Broken(f"{what} does not read its input") from None
         finally:
+            late.cancel()
             child.kill()
 
 
 def both_at_once(work, items):
-    """The results of work on items, two at a time: most of it is waiting for programs."""
+    """The results of work on items, two at a time; after a failure no more is begun."""
     with ThreadPoolExecutor(2) as pool:
-        return list(pool.map(work, items))
+        waiting = [pool.submit(work, item) for item in items]
+        try:
+            return [one.result() for one in waiting]
+        except Broken:
+            pool.shutdown(cancel_futures=True)
+            raise
 
 
 # ---- sheets in one line
@@ -185,8 +194,8 @@ def excerpt(data, at):
     """The line of a text that a byte is in, or the four bytes of a number."""
     if data[at : at + 1].isascii() and data[:1].isalpha():
         start = data.rfind(b"\n", 0, at) + 1
-        return escape(data[start:].partition(b"\n")[0]) + f" ({len(data)} bytes in all)"
-    return f"{data[at - at % 4 :][:4].hex() or 'nothing'} ({len(data)} bytes in all)"
+        return escape(data[start:].partition(b"\n")[0])[:80] + f" ({len(data)} bytes in all)"
+    return (data[at - at % 4 :][:4].hex() or "nothing") + f" ({len(data)} bytes in all)"
 
 
 # ---- counts
@@ -208,7 +217,8 @@ def without_version(text):
 
 def check_kept(module):
     for path, text in module.kept().items():
-        if without_version((ROOT / path).read_bytes()) != without_version(text):
+        kept = ROOT / path
+        if not kept.exists() or without_version(kept.read_bytes()) != without_version(text):
             raise Broken(f"{path} is not what oracle/store writes")
 
 
@@ -247,7 +257,7 @@ def store(*names):
 
     def write():
         build()
-        for name in names or NAMES:
+        for name in names or sorted(path.stem.removeprefix("compare_") for path in ROOT.glob("oracle/compare_*.py")):
             module = import_module(f"compare_{name}")
             if hasattr(module, "kept"):
                 write_kept(module)

@@ -6,7 +6,7 @@ stretches of samples. The records are those of crates/ask_instrument/README.md.
 """
 
 import struct
-from typing import NamedTuple, Optional
+from collections import namedtuple
 
 from f32 import INFINITY, NAN, ONE, SIGN, above, add, below
 
@@ -38,64 +38,41 @@ def long_record(kind, number):
     return record(kind, number % 2**32, number >> 32)
 
 
-class Operator(NamedTuple):
+class Operator(namedtuple("Operator", "amplitude freqratio attack decay sustain release feedback")):
     """The bits of six floats, and the feedback."""
-
-    amplitude: int
-    freqratio: int
-    attack: int
-    decay: int
-    sustain: int
-    release: int
-    feedback: int
 
     def record(self):
         return record(OPERATOR, *self)
 
 
-class Stack(NamedTuple):
-    number: int
-
+class Stack(namedtuple("Stack", "number")):
     def record(self):
         return long_record(STACK, self.number)
 
 
-class Instrument(NamedTuple):
+class Instrument(namedtuple("Instrument", "commands count", defaults=(None,))):
     """Commands, and a count where it is not their number."""
-
-    commands: tuple
-    count: Optional[int] = None
 
     def records(self):
         parts = [record(RESET)] + [command.record() for command in self.commands]
         return b"".join(parts + ([] if self.count is None else [long_record(SET_COUNT, self.count)]))
 
 
-class Value(NamedTuple):
-    """The value at a time."""
+# A question has a size: how many numbers the answer has, and how many values of the instrument are in it.
 
-    f: int
-    d: int
-    t: int
+
+class Value(namedtuple("Value", "f d t")):
+    """The value at a time."""
 
     def record(self):
         return record(VALUE, *self)
 
     def size(self):
-        """How many numbers the answer has, and how many values of the instrument are in it."""
         return 1, 1
 
 
-class Stretch(NamedTuple):
+class Stretch(namedtuple("Stretch", "amplitude f d rate first added length")):
     """A stretch of samples in a slice: added to its first elements, stored in the later ones."""
-
-    amplitude: int
-    f: int
-    d: int
-    rate: int
-    first: int
-    added: int
-    length: int
 
     def record(self):
         return record(STRETCH, *self)
@@ -104,16 +81,8 @@ class Stretch(NamedTuple):
         return 1 + self.length, min(self.length, max(NOTE_MOST - self.first, 0))
 
 
-class Run(NamedTuple):
+class Run(namedtuple("Run", "amplitude f d rate first times length")):
     """Stretches one after the other, the last of which is answered; all are within a note."""
-
-    amplitude: int
-    f: int
-    d: int
-    rate: int
-    first: int
-    times: int
-    length: int
 
     def record(self):
         return record(RUN, *self)
@@ -125,19 +94,17 @@ class Run(NamedTuple):
 # ---- numbers
 
 
-def size(dice, least, most):
-    """A float between two, over 0, each power of two as likely as the next."""
-    return dice.between(least, most)
+# Between two floats over 0 each power of two is as likely as the next, since bit patterns are thrown.
 
 
 def seconds(dice):
     """A length of an envelope stage, or a time: from 1/128 to 2, now and then 0."""
-    return 0 if dice.chance(8) else size(dice, SMALL, TWO)
+    return 0 if dice.chance(8) else dice.between(SMALL, TWO)
 
 
 def duration(dice, most):
     """A note's: half of them longer than every time that `seconds` gives, so that it still sounds then."""
-    return size(dice, TWO, most) if dice.chance(2) else seconds(dice)
+    return dice.between(TWO, most) if dice.chance(2) else seconds(dice)
 
 
 def odd(dice):
@@ -158,8 +125,8 @@ def frequency(dice, notes):
 
 def plain(dice):
     """An operator as a sheet gives it."""
-    amplitude, freqratio = size(dice, SMALL, EIGHT), size(dice, HALF, EIGHT)
-    stages = seconds(dice), seconds(dice), size(dice, SMALL, ONE), seconds(dice)
+    amplitude, freqratio = dice.between(SMALL, EIGHT), dice.between(HALF, EIGHT)
+    stages = seconds(dice), seconds(dice), dice.between(SMALL, ONE), seconds(dice)
     return Operator(amplitude, freqratio, *stages, feedback(dice))
 
 
@@ -245,7 +212,7 @@ def stretch(dice, notes):
     near = (0, dice.below(50_000), NOTE_MOST - dice.below(length + 2), NOTE_MOST + dice.below(9))[place]
     first = 2**32 - 1 if dice.chance(16) else near
     added = dice.pick((0, 1, length // 2, length, length + 1, 2**32 - 1))
-    amplitude = odd(dice) if dice.chance(6) else size(dice, SMALL, ONE)
+    amplitude = odd(dice) if dice.chance(6) else dice.between(SMALL, ONE)
     f, d = frequency(dice, notes), duration(dice, LONG)
     return Stretch(amplitude, f, d, dice.pick(RATES), first, added, length)
 

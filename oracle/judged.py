@@ -5,16 +5,15 @@ that name a capacity put a sheet outside the domain; the Rust is not asked about
 """
 
 import re
-import struct
 from collections import Counter
 from functools import lru_cache
 from itertools import islice
 
-import compare_numbers
 import limits
 import model
 import past_limits
 import rules
+from compare_numbers import SEMITONES, frequencies
 from dice import Dice
 from f32 import pattern
 from faults import FAULTS
@@ -102,11 +101,10 @@ def by_name(dump):
 
 def powers_agree():
     """Whether `given` has the frequencies of 01's power rule; `ruled` and the model must have them."""
-    requests = b"".join(compare_numbers.of_numbers(compare_numbers.FREQUENCY, s) for s in range(10, 110))
-    says = b"".join(struct.pack("<IQI", 1, pattern(rules.frequency(s)), 0) for s in range(10, 110))
-    if rust("ruled", "numbers")(requests) != says:
+    model_says = [pattern(rules.frequency(s)) for s in SEMITONES]
+    if frequencies("ruled") != model_says:
         raise Broken("ruled and the model differ in the power rule")
-    return rust("given", "numbers")(requests) == says
+    return frequencies("given") == model_says
 
 
 def without_frequencies(data):

@@ -4,7 +4,7 @@ Each entry is a label, a sheet and the answer worked out by hand from the docume
 says more.
 """
 
-from limits_of_lines import OP, WORD, instrument
+from limits_of_lines import OP, WORD, alike, instrument
 
 COUNT = 18446744073709551615
 
@@ -20,61 +20,40 @@ def commands():
     """Commands of a body, their ranges and values."""
     entries = []
     for letter, least, most in (("o", 1, 8), ("l", 1, 128), ("t", 1, 1000)):
-        for value, ending in (
-            (least - 1, "refused 8 1"),
-            (least, "accepted 2"),
-            (most, "accepted 2"),
-            (most + 1, "refused 8 1"),
-            (WORD, "refused 8 1"),
-            (WORD + 1, "refused 7 1"),
-            ("", "refused 7 1"),
-            (" 4", "refused 7 1"),
-            ("-4", "refused 7 1"),
-            ("0" * 20 + "4", "accepted 2"),
-            ("4x", "refused 14 1"),
-        ):
-            entries.append((f"command: {letter}{value}", f"p {letter}{value} r", ending))
-    amplitudes = {
-        "0": "accepted 2",
-        "1": "accepted 2",
-        "0.0": "accepted 2",
-        "1.0": "accepted 2",
-        "2": "refused 8 1",
-        "": "refused 7 1",
-        ".5": "refused 7 1",
-        "5.": "refused 7 1",
-        "0.": "refused 7 1",
-        "0.c": "refused 7 1",
-        "-0": "refused 7 1",
-        " 0": "refused 7 1",
-        "0,7": "refused 14 1",
-        "0.5e": "accepted 3",
-        "0.5.5": "refused 14 1",
-        "0." + "1" * 17: "accepted 2",
-        "0." + "1" * 18: "refused 19 1",
-        "0" * 17 + "1": "accepted 2",
-        "0" * 18 + "1": "refused 19 1",
-        "2." + "0" * 18: "refused 19 1",
-        "1" * 19 + ".": "refused 7 1",
-        "1" * 19 + ".x": "refused 7 1",
-        "1" * 18: "refused 8 1",
-        "1.00000005960464477": "accepted 2",
-        "1.00000005960464478": "refused 8 1",
-        "0.00000000000000001": "accepted 2",
-    }
-    entries += [(f"command: v{value}", f"p v{value} c", ending) for value, ending in amplitudes.items()]
-    keys = {
-        "+": "accepted 2",
-        "=": "accepted 2",
-        "cc-": "accepted 2",
-        "c+c": "accepted 3",
-        "c++": "refused 14 1",
-        "": "refused 9 1",
-        "c": "refused 9 1",
-        "r+": "refused 9 1",
-        " c+": "refused 9 1",
-    }
-    entries += [(f"command: k{key}", f"p k{key} c", ending) for key, ending in keys.items()]
+        entries += alike(
+            f"command: {letter}{{}}", f"p {letter}{{}} r",
+            ("refused 8 1", least - 1),
+            ("accepted 2", least, most),
+            ("refused 8 1", most + 1, WORD),
+            ("refused 7 1", WORD + 1, "", " 4", "-4"),
+            ("accepted 2", "0" * 20 + "4"),
+            ("refused 14 1", "4x"),
+        )
+    entries += alike(
+        "command: v{}", "p v{} c",
+        ("accepted 2", "0", "1", "0.0", "1.0"),
+        ("refused 8 1", "2"),
+        ("refused 7 1", "", ".5", "5.", "0.", "0.c", "-0", " 0"),
+        ("refused 14 1", "0,7"),
+        ("accepted 3", "0.5e"),
+        ("refused 14 1", "0.5.5"),
+        ("accepted 2", "0." + "1" * 17),
+        ("refused 19 1", "0." + "1" * 18),
+        ("accepted 2", "0" * 17 + "1"),
+        ("refused 19 1", "0" * 18 + "1", "2." + "0" * 18),
+        ("refused 7 1", "1" * 19 + ".", "1" * 19 + ".x"),
+        ("refused 8 1", "1" * 18),
+        ("accepted 2", "1.00000005960464477"),
+        ("refused 8 1", "1.00000005960464478"),
+        ("accepted 2", "0.00000000000000001"),
+    )
+    entries += alike(
+        "command: k{}", "p k{} c",
+        ("accepted 2", "+", "=", "cc-"),
+        ("accepted 3", "c+c"),
+        ("refused 14 1", "c++"),
+        ("refused 9 1", "", "c", "r+", " c+"),
+    )
     unknown = "hjpzACR019-=,_#|\\'\x01"
     entries += [(f"command: unknown {c!r}", f"p c4 {c}", "refused 14 1") for c in unknown]
     return entries
@@ -82,48 +61,33 @@ def commands():
 
 def notes():
     """Letters, accidentals, values, dots and the two ends of the semitones."""
-    bodies = {
-        "abcdefgr": "accepted 8",
-        "c0": "refused 8 1",
-        "c1": "accepted 1",
-        "c128": "accepted 1",
-        "c129": "refused 8 1",
-        f"c{WORD}": "refused 8 1",
-        f"c{WORD + 1}": "refused 14 1",
-        f"c{WORD + 1}.": "refused 14 1",
-        "c" + "0" * 20 + "4": "accepted 1",
-        "c" + "0" * 20: "refused 8 1",
-        "c.": "accepted 1",
-        "c4.": "accepted 1",
-        "c+.": "accepted 1",
-        "c..": "refused 14 1",
-        "c4..": "refused 14 1",
-        "c4 .": "refused 14 1",
-        "c 4": "refused 14 1",
-        "c +": "refused 14 1",
-        "c++": "accepted 1",
-        "c--": "accepted 1",
-        "c+++": "refused 14 1",
-        "c---": "refused 14 1",
-        "c+-": "refused 14 1",
-        "c==": "refused 14 1",
-        "c=+": "refused 14 1",
-        "c++16.d--8.e=2.": "accepted 3",
-        "r+r--r=r8.": "accepted 4",
-        "o1c--": "accepted 2",
-        "o8b++": "accepted 2",
-        "o8>b++o1<c--": "accepted 6",
-        "kcf+cdefgabr": "accepted 9",
-        "kcr=c": "refused 9 1",
-        "kb- b b= b-- b+ b": "accepted 6",
-        "kabcdefg+r": "accepted 2",
-        "kc+kd-cd": "accepted 4",
-        "l8c.l1.": "refused 14 1",
-        "o4c>c>c<c<c": "accepted 10",
-        "t1000l128c": "accepted 3",
-        "t7l3c5.d7e9.f11": "accepted 6",
-    }
-    return [(f"note: {body}", f"p {body}", ending) for body, ending in bodies.items()] + [
+    return alike(
+        "note: {}", "p {}",
+        ("accepted 8", "abcdefgr"),
+        ("refused 8 1", "c0"),
+        ("accepted 1", "c1", "c128"),
+        ("refused 8 1", "c129", f"c{WORD}"),
+        ("refused 14 1", f"c{WORD + 1}", f"c{WORD + 1}."),
+        ("accepted 1", "c" + "0" * 20 + "4"),
+        ("refused 8 1", "c" + "0" * 20),
+        ("accepted 1", "c.", "c4.", "c+."),
+        ("refused 14 1", "c..", "c4..", "c4 .", "c 4", "c +"),
+        ("accepted 1", "c++", "c--"),
+        ("refused 14 1", "c+++", "c---", "c+-", "c==", "c=+"),
+        ("accepted 3", "c++16.d--8.e=2."),
+        ("accepted 4", "r+r--r=r8."),
+        ("accepted 2", "o1c--", "o8b++"),
+        ("accepted 6", "o8>b++o1<c--"),
+        ("accepted 9", "kcf+cdefgabr"),
+        ("refused 9 1", "kcr=c"),
+        ("accepted 6", "kb- b b= b-- b+ b"),
+        ("accepted 2", "kabcdefg+r"),
+        ("accepted 4", "kc+kd-cd"),
+        ("refused 14 1", "l8c.l1."),
+        ("accepted 10", "o4c>c>c<c<c"),
+        ("accepted 3", "t1000l128c"),
+        ("accepted 6", "t7l3c5.d7e9.f11"),
+    ) + [
         ("note: denominator 128", "#denom 128\np t1000 c128 d3. e7", "accepted 4"),
         ("note: environment goes on in the next line", "p o5l8v0.25t90\nq c\np c", "accepted 6"),
     ]
@@ -131,43 +95,29 @@ def notes():
 
 def loops():
     """Loops: counts, cuts, room for open ones, lines and parts."""
-    bodies = {
-        "]2": "refused 10 1",
-        ":": "refused 10 1",
-        "]": "refused 10 1",
-        "]0": "refused 10 1",
-        "[c]2]2": "refused 10 1",
-        "[c]2:": "refused 10 1",
-        "[c]": "refused 11 1",
-        "[c]x": "refused 11 1",
-        "[c] 2": "refused 11 1",
-        "[c]-1": "refused 11 1",
-        f"[c]{COUNT + 1}": "refused 11 1",
-        f"[c]{COUNT}": "refused 21 1",
-        f"[:c]{COUNT}": "refused 21 1",
-        f"[]{COUNT}": "accepted 2",
-        f"[[:]{COUNT}]{COUNT}": "accepted 5",
-        f"[]{COUNT + 1}": "refused 11 1",
-        "[]0": "refused 11 1",
-        "[cc]9223372036854775809": "refused 21 1",
-        "[cc]9223372036854775808": "refused 21 1",
-        "[cccc]4611686018427387905": "refused 21 1",
-        "[c]4294967297": "refused 21 1",
-        "[c]" + "0" * 30 + "2": "accepted 3",
-        "[c]2.": "refused 14 1",
-        "[:c]1": "accepted 4",
-        "[c:]3": "accepted 4",
-        "[::c:d:]2": "accepted 8",
-        "[c[d:e]2:f]2g": "accepted 11",
-        "[[c:]2:d]3": "accepted 8",
-        "[c:d]2[e:f]3": "accepted 10",
-        "[ c >: d < ]2": "accepted 7",
-        "[o5c]2d": "accepted 5",
-        "[" * 8 + "c" + "]2" * 8: "accepted 17",
-        "[" * 9: "refused 21 1",
-        "[" * 8 + "]1[" + "]1" * 8: "accepted 18",
-    }
-    return [(f"loop: {body}", f"p {body}", ending) for body, ending in bodies.items()] + [
+    return alike(
+        "loop: {}", "p {}",
+        ("refused 10 1", "]2", ":", "]", "]0", "[c]2]2", "[c]2:"),
+        ("refused 11 1", "[c]", "[c]x", "[c] 2", "[c]-1", f"[c]{COUNT + 1}"),
+        ("refused 21 1", f"[c]{COUNT}", f"[:c]{COUNT}"),
+        ("accepted 2", f"[]{COUNT}"),
+        ("accepted 5", f"[[:]{COUNT}]{COUNT}"),
+        ("refused 11 1", f"[]{COUNT + 1}", "[]0"),
+        ("refused 21 1", "[cc]9223372036854775809", "[cc]9223372036854775808", "[cccc]4611686018427387905",
+         "[c]4294967297"),
+        ("accepted 3", "[c]" + "0" * 30 + "2"),
+        ("refused 14 1", "[c]2."),
+        ("accepted 4", "[:c]1", "[c:]3"),
+        ("accepted 8", "[::c:d:]2"),
+        ("accepted 11", "[c[d:e]2:f]2g"),
+        ("accepted 8", "[[c:]2:d]3"),
+        ("accepted 10", "[c:d]2[e:f]3"),
+        ("accepted 7", "[ c >: d < ]2"),
+        ("accepted 5", "[o5c]2d"),
+        ("accepted 17", "[" * 8 + "c" + "]2" * 8),
+        ("refused 21 1", "[" * 9),
+        ("accepted 18", "[" * 8 + "]1[" + "]1" * 8),
+    ) + [
         ("loop: over two lines", "p [c\np d]2", "accepted 4"),
         ("loop: over two lines, another part between", "p [c\nq d\np ]2", "accepted 4"),
         ("loop: cut on the next line", "p [c\np :d]2", "accepted 5"),

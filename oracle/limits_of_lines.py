@@ -17,6 +17,11 @@ def operators(count):
     return [OP] * count
 
 
+def alike(label, sheet, *groups):
+    """Entries that differ in one text: groups of an answer and the texts that have it."""
+    return [(label.format(text), sheet.format(text), answer) for answer, *texts in groups for text in texts]
+
+
 def examples():
     """The sheets of `Sheets by example`; number 9 is about samples."""
     indents = instrument(OP, "\t1 2 0 0 1 0", "\t\t1 3 0 0 1 0", "\t1 4 0 0 1 0")
@@ -229,46 +234,21 @@ def directives():
     """Directives, their values and order."""
     entries = []
     for name, least, most in (("#tempo", 1, 1000), ("#denom", 1, 128)):
-        for value, ending in (
-            (least - 1, "refused 8 1"),
-            (least, "accepted 1"),
-            (most, "accepted 1"),
-            (most + 1, "refused 8 1"),
-            (WORD, "refused 8 1"),
-            (WORD + 1, "refused 7 1"),
-            ("x", "refused 7 1"),
-            ("-1", "refused 7 1"),
-            (name[1:], "refused 7 1"),
-            (name[1], "refused 7 1"),
-            (name, "refused 7 1"),
-            ("0" * 20 + "64", "accepted 1"),
-            ("64x", "accepted 1"),
-            ("64 Z", "accepted 1"),
-            ("64.5", "accepted 1"),
-            ("", "refused 7 1"),
-        ):
-            entries.append((f"directive: {name} {value}", f"{name} {value}\np r", ending))
-    keys = {
-        "+": "accepted 1",
-        "c-": "accepted 1",
-        "abcdefg=": "accepted 1",
-        "cc+": "accepted 1",
-        "c+x": "accepted 1",
-        "c++": "accepted 1",
-        "e=": "accepted 1",
-        "": "refused 7 1",
-        "c": "refused 9 1",
-        "c +": "refused 9 1",
-        "e": "refused 9 1",
-        "ey": "refused 9 1",
-        "k": "refused 9 1",
-        "#": "refused 9 1",
-        "#key": "refused 9 1",
-        "r+": "refused 9 1",
-        "h+": "refused 9 1",
-        "C+": "refused 9 1",
-    }
-    entries += [(f"directive: #key {key}", f"#key {key}\np c", ending) for key, ending in keys.items()]
+        entries += alike(
+            f"directive: {name} {{}}", f"{name} {{}}\np r",
+            ("refused 8 1", least - 1),
+            ("accepted 1", least, most),
+            ("refused 8 1", most + 1, WORD),
+            ("refused 7 1", WORD + 1, "x", "-1", name[1:], name[1], name),
+            ("accepted 1", "0" * 20 + "64", "64x", "64 Z", "64.5"),
+            ("refused 7 1", ""),
+        )
+    entries += alike(
+        "directive: #key {}", "#key {}\np c",
+        ("accepted 1", "+", "c-", "abcdefg=", "cc+", "c+x", "c++", "e="),
+        ("refused 7 1", ""),
+        ("refused 9 1", "c", "c +", "e", "ey", "k", "#", "#key", "r+", "h+", "C+"),
+    )
     return entries + [
         ("directive: unknown", "#x 1\np c", "refused 6 1"),
         ("directive: unknown with a bad value", "#x Z\np c", "refused 6 1"),

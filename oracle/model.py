@@ -260,8 +260,10 @@ class Sheet:
     def read_item(self, part, text, at, line, depth):
         """One note, command, mark or macro call; gives the place after it."""
         letter = chr(text[at])
-        if letter in "<>[:":
-            self.mark(part, letter, line)
+        if letter in "<>":
+            return self.move_octave(part.environment, text, at, line)
+        if letter in "[:":
+            self.mark_loop(part, letter, line)
             return at + 1
         if letter in rules.OFFSETS:
             return self.read_note(part, text, at, line)
@@ -319,13 +321,21 @@ class Sheet:
         body, body_line = self.macros[name]
         self.read_body(part, body, body_line, depth + 1)
 
-    def mark(self, part, letter, line):
-        environment = part.environment
-        if letter == ">":
-            environment["octave"] = min(environment["octave"] + 1, 8)
-        elif letter == "<":
-            environment["octave"] = max(environment["octave"] - 1, 1)
-        elif letter == "[":
+    def move_octave(self, environment, text, at, line):
+        """`>` or `<`, and those that follow it at once, each a step of its own: the longest sheets are made of them."""
+        octave = environment["octave"]
+        while True:
+            octave = min(octave + 1, 8) if text[at] == ord(">") else max(octave - 1, 1)
+            at += 1
+            if text[at : at + 1] not in (b"<", b">"):
+                break
+            self.count_step(line)
+        environment["octave"] = octave
+        return at
+
+    @staticmethod
+    def mark_loop(part, letter, line):
+        if letter == "[":
             if len(part.loops) == rules.OPEN_LOOPS:
                 raise Refused(21, line)
             part.loops.append(Loop())
