@@ -1,7 +1,7 @@
 """Compares the program `cue` with the model and the Rust, sheet by sheet: hand-made, generated ones and some aimed at each refusal.
 
 The answer to every sheet is `refused N L` as the model says, or a WAV file: byte for byte that of the Rust that has document 01's sine,
-power and order of parts, or where it would take long its header. In the domain the Rust's `Err` comes exactly where the refusal is one
+power and order of parts, or where that would take long its header. In the domain the Rust's `Err` comes exactly where the refusal is one
 of 3 to 18, 25 and 26.
 """
 
@@ -12,22 +12,23 @@ from compare_wave import HEADER_BYTES, RATE, form
 from harness import command_of, first_of, hold_each, proved, rust
 from judged import NUMBERS
 
-COUNT = 8_000
+COUNT = 6_000
 # For each refusal number one aimed sheet to so many generated ones.
 AIMED = 200
-# Longer files take long.
-LONGEST = 120_000
+# Of a file that is longer, or that costs more to render, the header is enough.
+LONGEST = 1_000_000
+DEAREST = 3_000_000
 REFUSALS = dict(zip(NUMBERS, (
-    *(80, 235, 125, 120, 115, 170, 200, 220, 150),
-    *(170, 130, 130, 155, 315, 105, 115, 190, 185),
-    *(125, 120, 130, 80, 65, 95, 140, 120, 80),
+    *(55, 165, 95, 88, 80, 130, 155, 180, 105),
+    *(140, 94, 97, 118, 250, 80, 90, 140, 145),
+    *(97, 95, 105, 58, 52, 70, 100, 90, 58),
 ), strict=True))
 FLOORS = {
-    "files": 1_750,
-    "samples": 85_000_000,
-    "headers of longer files": 2_000,
-    "in the domain": 6_600,
-    "refused": 3_900,
+    "files": 2_250,
+    "samples": 325_000_000,
+    "headers of longer files": 640,
+    "in the domain": 5_100,
+    "refused": 3_000,
     **{f"refused {number}": least for number, least in REFUSALS.items()},
 }
 
@@ -44,16 +45,17 @@ def header_case(sheet):
     return sheet.case(sheet.text, form(32 + 2 * sheet.length, RATE, sheet.length))
 
 
-def header_of(text):
-    return first_of("cue", command_of("cue"), text, HEADER_BYTES)
+def header_of(text, seconds):
+    return first_of("cue", command_of("cue"), text, HEADER_BYTES, seconds)
 
 
 def compare(seed, count):
     sheets = judged.hand_made() + judged.generated(seed, count) + judged.aimed(seed, 1 + count // AIMED)
     judged.hold_model(sheets)
-    refused = [sheet for sheet in sheets if sheet.number]
-    files = [sheet for sheet in sheets if not sheet.number and sheet.length <= LONGEST]
-    longer = [sheet for sheet in sheets if not sheet.number and sheet.length > LONGEST]
+    refused, files, longer = [], [], []
+    for sheet in sheets:
+        short = sheet.length <= LONGEST and sheet.cost <= DEAREST
+        (refused if sheet.number else files if short else longer).append(sheet)
     hold_each("cue", proved("cue"), refused, refusal_case)
     hold_each("cue", proved("cue"), files, file_case)
     hold_each("cue", header_of, longer, header_case)

@@ -3,7 +3,7 @@
 A comparison is a module `compare_NAME`, which the script tools/compare/NAME starts. It has
 
     FLOORS                 the least that its usual run compares, by what is counted
-    COUNT                  how much its usual run throws, if that can be chosen
+    COUNT                  how much its usual run throws
     compare(seed, count)   a Counter of what was compared; it raises Broken where something differs
     kept()                 where it keeps requests and answers: the files by path, made without the proved program
     TOLD                   more words for its last line, if any
@@ -22,7 +22,9 @@ from threading import Timer
 
 ROOT = Path(__file__).resolve().parent.parent
 SEED = 1
+# How long a program may take; while the smallest case is looked for, a hanging one costs less.
 SECONDS = 120
+SEARCH_SECONDS = 20
 # Another compiler that gives the same answers is no difference.
 VERSION = b"# built: "
 # Of what was compared too little the first few tell enough.
@@ -33,19 +35,17 @@ class Broken(Exception):
     """Something differs or does not work."""
 
 
-class Late(Broken):
-    """A program did not end in time."""
-
-
 # ---- programs
 
 
-def started(what, command, text, seconds=SECONDS):
+def started(what, command, text, seconds):
     """What a command writes; Broken where it does not end in time and with status 0."""
     try:
         done = subprocess.run(command, input=text, capture_output=True, timeout=seconds)
     except subprocess.TimeoutExpired:
-        raise Late(f"{what} did not finish in {seconds} s") from None
+        raise Broken(f"{what} did not finish in {seconds} s") from None
+    except OSError as error:
+        raise Broken(f"{what} cannot be started: {error.strerror}") from None
     if done.returncode != 0:
         said = done.stderr.decode(errors="replace").strip()
         raise Broken(f"{what} ended with status {done.returncode}" + (f": {said}" if said else ""))
@@ -62,26 +62,30 @@ def build():
 
 def rust(name, mode):
     """Asks one of the Rust programs, `given` or `ruled`."""
-    where = lambda text: f" at the sheet {escape(text)}" if mode in ("wav", "raw") else ""
-    return lambda text: started(f"{name} {mode}{where(text)}", [ROOT / "target" / "oracle" / name, mode], text)
+
+    def ask(text, seconds=SECONDS):
+        where = f" at the sheet {escape(text)}" if mode in ("wav", "raw") else ""
+        return started(f"{name} {mode}{where}", [ROOT / "target" / "oracle" / name, mode], text, seconds)
+
+    return ask
 
 
 @lru_cache(maxsize=None)
 def command_of(name):
     """The words that start a proved program; found out once, as the kit is slow to ask."""
-    words = started(name, [ROOT / "tools" / "run", "--words", name], b"")
+    words = started(name, [ROOT / "tools" / "run", "--words", name], b"", SECONDS)
     return words.decode().splitlines()
 
 
 def proved(name):
     """Asks a proved program."""
-    return lambda text: started(name, command_of(name), text)
+    return lambda text, seconds=SECONDS: started(name, command_of(name), text, seconds)
 
 
-def first_of(what, command, text, count):
+def first_of(what, command, text, count, seconds):
     """The first bytes that a command writes, which is then ended; fewer where it ends itself or takes too long."""
     with subprocess.Popen(command, stdin=subprocess.PIPE, stdout=subprocess.PIPE) as child:
-        late = Timer(SECONDS, child.kill)
+        late = Timer(seconds, child.kill)
         late.start()
         try:
             child.stdin.write(text)
@@ -157,12 +161,10 @@ def hold_each(what, ask, items, case_of):
         raise Broken(f"{what} answers {len(apart)} of {len(items)} otherwise; the smallest: {case.told()}\n{account(ask, case)}")
 
 
-def differs(ask, cases):
+def differs(ask, cases, seconds=SECONDS):
     """Whether some of the cases is answered otherwise, or not at all."""
     try:
-        return ask(b"".join(case.request for case in cases)) != b"".join(case.wanted for case in cases)
-    except Late:
-        raise
+        return ask(b"".join(case.request for case in cases), seconds) != b"".join(case.wanted for case in cases)
     except Broken:
         return True
 
@@ -172,7 +174,7 @@ def smallest(ask, cases):
     cases = sorted(cases, key=lambda case: (len(case.request), case.request))
     while len(cases) > 1:
         middle = len(cases) // 2
-        cases = cases[:middle] if differs(ask, cases[:middle]) else cases[middle:]
+        cases = cases[:middle] if differs(ask, cases[:middle], SEARCH_SECONDS) else cases[middle:]
     pieces = cases[0].pieces()
     return smallest(ask, pieces) if pieces else cases[0]
 
@@ -180,7 +182,7 @@ def smallest(ask, cases):
 def account(ask, case):
     """Where the answer to one case parts from the wanted one."""
     try:
-        found = ask(case.request)
+        found = ask(case.request, SEARCH_SECONDS)
     except Broken as broken:
         return f"  {broken}"
     if found == case.wanted:

@@ -35,6 +35,13 @@ OUTSIDE = {
 }
 
 
+def cost_of(sheet):
+    """What rendering takes: how many samples all notes have together, each as often as an operator is worked out for it."""
+    rounds = [1 + sum(1 + int(c.split()[-1]) for c in one.commands if c.startswith("op ")) for one in sheet.instruments]
+    notes = [note for part in sheet.parts.values() for note in part.notes]
+    return sum(rules.samples(seconds, sheet.instruments[i].release) * rounds[i] for _, _, seconds, i in notes)
+
+
 class Judged:
     """A sheet, where it comes from, the model's answer, and the answer that is known without it, if one is."""
 
@@ -43,9 +50,9 @@ class Judged:
         self.line = escape(text)
         found = model.read(text)
         self.answer = model.answer(found)
-        # 0 for an accepted sheet, which has a length in samples.
+        # 0 for an accepted sheet, which has a length in samples, and a cost.
         self.number = getattr(found, "number", 0)
-        self.length = 0 if self.number else found.length()
+        self.length, self.cost = (0, 0) if self.number else (found.length(), cost_of(found))
         self.in_domain = self.number not in OUTSIDE
         self.verdict = f"refused {self.number}" if self.number else "accepted"
 
@@ -118,7 +125,7 @@ def hold_given(cases):
         return hold("given", ask, cases)
     for case in cases:
         case.wanted = without_frequencies(case.wanted)
-    return hold("given", lambda text: without_frequencies(ask(text)), cases)
+    return hold("given", lambda text, seconds: without_frequencies(ask(text, seconds)), cases)
 
 
 def hold_model(judged):
