@@ -84,9 +84,9 @@ def thrown(seed, count):
 
 def compare(seed, count):
     dice = Dice(seed)
-    sizes = [min(BLOCK, count - at) for at in range(0, count, BLOCK)]
-    blocks = [(dice.word(), size) for size in sizes]
-    return sum(both_at_once(lambda block: thrown(*block), blocks), held(unthrown(dice)))
+    counts = held(unthrown(dice))
+    blocks = [(dice.word(), min(BLOCK, count - at)) for at in range(0, count, BLOCK)]
+    return sum(both_at_once(lambda block: thrown(*block), blocks), counts)
 
 
 # ---- the chosen requests
