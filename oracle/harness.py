@@ -141,7 +141,7 @@ def hold(what, ask, cases):
     """Asks about all cases at once; gives their counts, or raises Broken with the smallest that is answered otherwise."""
     if differs(ask, cases):
         case = smallest(ask, cases)
-        raise Broken(f"{what} answers otherwise; the smallest of {len(cases)} requests: {case.told()}\n{account(ask, case)}")
+        raise Broken(f"{what} answers otherwise; the smallest request that shows it: {case.told()}\n{account(ask, case)}")
     counts = Counter()
     for case in cases:
         counts.update(case.counts)
