@@ -120,6 +120,12 @@ def escape(sheet):
     return "".join(map(ESCAPED.__getitem__, sheet))
 
 
+def unescape(line):
+    """The sheet of a line."""
+    head, *rest = line.split("\\")
+    return head.encode("ascii") + b"".join(bytes([int(piece[:2], 16)]) + piece[2:].encode("ascii") for piece in rest)
+
+
 # ---- holding answers
 
 

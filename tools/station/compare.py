@@ -22,7 +22,7 @@ from builds import ROOT, Broken
 from calls import NAMES, Refused, Sound, answer, asked_of, said
 
 sys.path.insert(1, str(ROOT / "oracle"))
-from escaped import escape, unescape  # noqa: E402
+from harness import escape, unescape  # noqa: E402
 
 # How much of a file is looked at.
 FRONT = 44 + 2 * 250_000
