@@ -9,10 +9,11 @@ use lib.ListN.{length, take}
 use lib.Ieee.{Float}
 use borrow.Author.Tests.{leb-true, eqb-true}
 use Rattle.sheet.proofs.Basics.{both}
-use Rattle.sheet.specs.Capacities.{loopsMost, notesMost, instrumentsMost}
+use Rattle.sheet.specs.Capacities.{loopsMost, nestingMost, notesMost, instrumentsMost}
 use Rattle.sheet.specs.Refusals.{Outcome, going, refused}
 use Rattle.part.specs.declared.state.State.{State}
-use Rattle.part.specs.Body.{Book, Progress, bodyRead}
+use Rattle.items.specs.Items.{itemsOf}
+use Rattle.part.specs.Body.{Book, Progress, run, inside, bodyRead}
 use Rattle.notes.specs.Columns.{notesIn}
 use Rattle.part.specs.Columns.{loopsIn, progressOf, Ready, Becomes}
 use Rattle.part.specs.Reading.{isReady, partIn, stateAfter, Held}
@@ -121,11 +122,19 @@ module _ (book : Book) (line : ℕ) (text : List ℕ) (s q : State) (fs : List F
       × (Held (partIn book line text s fs is ls) fs′ is′ ls′
       × (isReady s (length fs) (length is) (length ls) (length (book .releases)) ≡ true → q .refusal ≡ 0 → Ready q fs′ is′ ls′))
 
-  pub promised-ready : isReady s (length fs) (length is) (length ls) (length (book .releases)) ≡ true
+  promised-ready : isReady s (length fs) (length is) (length ls) (length (book .releases)) ≡ true
       → Settled s q (bodyRead book line text (progressOf s fs is ls)) fs′ is′ ls′ → Promised
   promised-ready e h =
       let t = told-as s q _ _ fs′ is′ ls′ (part-ready book line text s fs is ls e) (h .0, h .1 .0) in
       (t .0, (t .1, λ x. h .1 .1))
+
+  -- from what the reader of bodies has come to, with all nested calls to go, and what is made of that
+  pub promised-read : isReady s (length fs) (length is) (length ls) (length (book .releases)) ≡ true
+      → (r : State) → Becomes (run book line (inside book nestingMost line) (itemsOf text) (progressOf s fs is ls)) r fs′ is′ ls′
+      → ((o : Outcome Progress) (gs : List Float) (js ms : List ℕ) → Becomes o r gs js ms → Settled s q o gs js ms)
+      → Promised
+  unfolding bodyRead
+  promised-read e r b h = promised-ready e (h (bodyRead book line text (progressOf s fs is ls)) fs′ is′ ls′ b)
 
 pub promised-unready : (book : Book) (line : ℕ) (text : List ℕ) (s : State) (fs : List Float) (is ls : List ℕ) (fs′ : List Float) (is′ ls′ : List ℕ)
     → isReady s (length fs) (length is) (length ls) (length (book .releases)) ≡ false → Promised book line text s (refusedAt s 21 line) fs is ls fs′ is′ ls′

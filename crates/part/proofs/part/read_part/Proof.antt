@@ -1,8 +1,7 @@
 -- `read_part` asks whether the state is ready, and is then the reader of bodies with all nested calls to go. Assumes nothing.
 use mathlib.Core.Path.{sym, _∙_}
 use borrow.Author.Tests.{not-true, not-false}
-use Rattle.part.specs.Body.{bodyRead}
-use Rattle.part.proofs.Settling.{ready-so, promised-ready, promised-unready}
+use Rattle.part.proofs.Settling.{ready-so, promised-read, promised-unready}
 use borrow.Author.Needs.{needs}
 use Rattle.part.proofs.part.read_part.Statement.{statement}
 use Rattle.part.proofs.part.read_part.Tie as tie
@@ -29,8 +28,7 @@ same-length-3 : tie.Need-same-length-3
 same-length-3 c = search needs
 
 returns-2 : tie.Need-returns-2
-unfolding bodyRead
-returns-2 c = promised-ready _ _ _ _ _ _ _ _ _ _ _ (sym (c .before .before .before .before .before .before .before .before .before .before .before .before .is-ready .ensures) ∙ not-false _ (c .before .before .before .before .before .before .before .before .before .before .before .if1 .left)) (c .settled .ensures _ _ _ _ (c .before .before .before .before .before .before .before .body .ensures))
+returns-2 c = promised-read _ _ _ _ _ _ _ _ _ _ _ (sym (c .before .before .before .before .before .before .before .before .before .before .before .before .is-ready .ensures) ∙ not-false _ (c .before .before .before .before .before .before .before .before .before .before .before .if1 .left)) _ (c .before .before .before .before .before .before .before .body .ensures) (c .settled .ensures)
 
 pub read-part-spec : {M : Type 1} → statement M
 read-part-spec =
