@@ -19,13 +19,13 @@ use Rattle.number.specs.declared.digits.Int.{Int}
 use Rattle.number.specs.Digits.{valueMost, intAt}
 use Rattle.sheet.specs.Refusals.{Outcome, going, _>>=_, refuse_on_without_}
 use Rattle.environment.specs.declared.environment.Environment.{Environment}
-use Rattle.environment.specs.declared.key.Key.{Key}
-use Rattle.environment.specs.declared.key.KeyAt.the-variants.{Found, Absent}
+use Rattle.keys.specs.declared.key.Key.{Key}
+use Rattle.keys.specs.declared.key.KeyAt.the-variants.{Found, Absent}
 use Rattle.environment.specs.declared.range.RangedValue.{RangedValue}
 use Rattle.environment.specs.declared.range.RangedValue.the-variants as RangedValue
 use Rattle.environment.specs.Bounds.{Bounds, tempos, denominators}
 use Rattle.environment.specs.Environment.{withTempo, withDenominator}
-use Rattle.environment.specs.Keys.{keyAt, keyFound}
+use Rattle.keys.specs.Keys.{keyAt, keyFound}
 use Rattle.environment.specs.Ranges.{digitRun, ranged, valueOutcome}
 use Rattle.directive.specs.declared.directive.Directive.the-variants.{Tempo, Denominator, OfKey, Refused}
 use Rattle.directive.specs.Directives.{directives, changeOf, directiveOf, directiveOutcome}

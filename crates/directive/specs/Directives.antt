@@ -10,7 +10,7 @@ use Rattle.sheet.specs.Refusals.{Outcome, going, refused, _>>=_, refuse_on_with
 use Rattle.environment.specs.declared.environment.Environment.{Environment}
 use Rattle.directive.specs.declared.directive.Directive.{Directive}
 use Rattle.directive.specs.declared.directive.Directive.the-variants.{Tempo, Denominator, OfKey, Refused}
-use Rattle.environment.specs.Keys.{keyAt, keyFound}
+use Rattle.keys.specs.Keys.{keyAt, keyFound}
 use Rattle.environment.specs.Bounds.{denominators, tempos}
 use Rattle.environment.specs.Environment.{withTempo, withDenominator, withKey}
 use Rattle.environment.specs.Ranges.{digitRun, ranged}

@@ -6,7 +6,7 @@ use Rattle.sheet.specs.Refusals.{Outcome, going, refused, _>>=_, refuse_on_with
 use Rattle.environment.specs.declared.environment.Environment.{Environment}
 use Rattle.environment.specs.declared.command.Changed.{Changed}
 use Rattle.environment.specs.declared.command.Changed.the-variants.{To, Refused}
-use Rattle.environment.specs.declared.key.Key.{Key}
+use Rattle.keys.specs.declared.key.Key.{Key}
 use Rattle.environment.specs.Bounds.{octaves, values, tempos}
 use Rattle.environment.specs.Environment.{withOctave, withValue, withTempo, withAmplitude, withKey}
 use Rattle.environment.specs.Ranges.{Amount, ranged, loudness}

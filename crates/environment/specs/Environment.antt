@@ -4,9 +4,9 @@ use Prim.Native.Nat.{ℕ, _+_, _-_, min, max}
 use lib.Ieee.{Float}
 use Rattle.ieee.specs.Constants.{half}
 use Rattle.environment.specs.declared.environment.Environment.{Environment}
-use Rattle.environment.specs.declared.key.Accidental.the-variants.{Natural}
-use Rattle.environment.specs.declared.key.Key.{Key}
-use Rattle.environment.specs.Keys.{keyOf}
+use Rattle.keys.specs.declared.key.Accidental.the-variants.{Natural}
+use Rattle.keys.specs.declared.key.Key.{Key}
+use Rattle.keys.specs.Keys.{keyOf}
 use Rattle.environment.specs.Bounds.{octaves}
 
 -- ---- the start

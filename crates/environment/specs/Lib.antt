@@ -1,5 +1,4 @@
 pub mod Bounds
 pub mod Changes
 pub mod Environment
-pub mod Keys
 pub mod Ranges

@@ -4,14 +4,14 @@
 ghost use mathlib.Core.Path.{_≡_};
 ghost use Prim.Native.Nat.{ℕ};
 ghost use Rattle.environment.specs.Changes.{changeOutcome, octaveRead, valueRead, tempoRead, amplitudeRead, keyRead};
-ghost use Rattle.environment.specs.Keys.{keyFound};
+ghost use Rattle.keys.specs.Keys.{keyFound};
 ghost use Rattle.environment.specs.Ranges.{digitRun, amountOf};
 use crate::environment::Environment;
-use crate::key::KeyAt;
 use crate::range::RangedAmplitude;
 use crate::range::RangedValue;
 use crate::range::ranged_amplitude;
 use crate::range::ranged_value;
+use keys::key::KeyAt;
 use number::decimal::Decimal;
 use number::digits::Int;
 

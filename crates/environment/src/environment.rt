@@ -2,8 +2,8 @@
 
 ghost use mathlib.Core.Path.{_≡_};
 ghost use Rattle.environment.specs.Environment.{atTheStart, octaveUp, octaveDown};
-use crate::key::Accidental;
-use crate::key::Key;
+use keys::key::Accidental;
+use keys::key::Key;
 
 pub struct Environment {
     pub octave: u32,

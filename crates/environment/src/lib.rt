@@ -3,5 +3,4 @@
 
 pub mod command;
 pub mod environment;
-pub mod key;
 pub mod range;

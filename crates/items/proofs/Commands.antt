@@ -19,15 +19,15 @@ use Rattle.number.specs.declared.decimal.Decimal.{Decimal}
 use Rattle.number.specs.Digits.{intAt}
 use Rattle.number.specs.Decimal.{decimalAt}
 use Rattle.number.proofs.Tokens.{intMoved, decimalMoved, int-moved, decimal-moved}
-use Rattle.environment.specs.declared.key.KeyAt.{KeyAt}
-use Rattle.environment.specs.declared.key.KeyAt.the-variants.{Found as KeyFound, Absent as NoKey}
-use Rattle.environment.specs.Keys.{keyAt}
+use Rattle.keys.specs.declared.key.KeyAt.{KeyAt}
+use Rattle.keys.specs.declared.key.KeyAt.the-variants.{Found as KeyFound, Absent as NoKey}
+use Rattle.keys.specs.Keys.{keyAt}
 use Rattle.environment.specs.Ranges.{Amount, digitRun, amountOf}
-use Rattle.environment.proofs.Moves.{keyMoved, key-moved}
+use Rattle.keys.proofs.Moves.{keyMoved, key-moved}
 use Rattle.items.specs.Items.{Item, Found, found, unknown, amplitude, key}
 use Rattle.items.specs.Items.{numbered, named, intWidth, decimalWidth, keyItem, itemAt, isNoteLetter, noteAt, beginnings}
 use Rattle.items.specs.Steps.{intEnd, decimalEnd, keyEnd, rowsFrom}
-use Rattle.environment.specs.Keys.{keyFound}
+use Rattle.keys.specs.Keys.{keyFound}
 use Rattle.items.proofs.Ends.{run-moved, amount-moved, int-end-width, decimal-end-width, int-ends, decimal-ends, key-ends}
 
 -- ---- what is read behind the first byte, which stands at `at`

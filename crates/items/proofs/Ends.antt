@@ -14,16 +14,16 @@ use Rattle.number.specs.Decimal.{decimalAt}
 use Rattle.number.proofs.Tokens.{intMoved, decimalMoved}
 use Rattle.number.proofs.Places.{int-placed}
 use Rattle.number.proofs.Cuts.{decimal-placed}
-use Rattle.environment.specs.declared.key.Mark.{Mark}
-use Rattle.environment.specs.declared.key.Mark.the-variants.{With, Without}
-use Rattle.environment.specs.declared.key.KeyAt.{KeyAt}
-use Rattle.environment.specs.declared.key.KeyAt.the-variants.{Found as KeyFound, Absent as NoKey}
-use Rattle.environment.specs.Keys.{noteMarkAt, keyAt}
+use Rattle.keys.specs.declared.key.Mark.{Mark}
+use Rattle.keys.specs.declared.key.Mark.the-variants.{With, Without}
+use Rattle.keys.specs.declared.key.KeyAt.{KeyAt}
+use Rattle.keys.specs.declared.key.KeyAt.the-variants.{Found as KeyFound, Absent as NoKey}
+use Rattle.keys.specs.Keys.{noteMarkAt, keyAt}
 use Rattle.environment.specs.Ranges.{digitRun, amountOf}
-use Rattle.environment.proofs.Moves.{markMoved, note-mark-within, key-within}
+use Rattle.keys.proofs.Moves.{markMoved, note-mark-within, key-within}
 use Rattle.items.specs.Items.{intWidth, decimalWidth}
 use Rattle.items.specs.Steps.{intEnd, decimalEnd, markEnd, keyEnd}
-use Rattle.environment.specs.Keys.{accidentalFound}
+use Rattle.keys.specs.Keys.{accidentalFound}
 
 -- ---- what does not see the move
 

@@ -13,16 +13,16 @@ use Rattle.number.specs.declared.digits.Int.{Int}
 use Rattle.number.specs.declared.digits.Int.the-variants.{Number, Absent}
 use Rattle.number.specs.Digits.{valueMost, intAt}
 use Rattle.number.proofs.Tokens.{intMoved, int-later}
-use Rattle.environment.specs.declared.key.Accidental.{Accidental}
-use Rattle.environment.specs.declared.key.Mark.{Mark}
-use Rattle.environment.specs.declared.key.Mark.the-variants.{With, Without}
-use Rattle.environment.specs.Keys.{noteMarkAt}
+use Rattle.keys.specs.declared.key.Accidental.{Accidental}
+use Rattle.keys.specs.declared.key.Mark.{Mark}
+use Rattle.keys.specs.declared.key.Mark.the-variants.{With, Without}
+use Rattle.keys.specs.Keys.{noteMarkAt}
 use Rattle.environment.specs.Ranges.{digitRun}
-use Rattle.environment.proofs.Moves.{markMoved, note-mark-moved}
+use Rattle.keys.proofs.Moves.{markMoved, note-mark-moved}
 use Rattle.items.specs.declared.item.Item.the-variants as Item
 use Rattle.items.specs.Items.{found, note, dotted, valued, markedNote, noteAt}
 use Rattle.items.specs.Steps.{intEnd, markEnd}
-use Rattle.environment.specs.Keys.{accidentalFound}
+use Rattle.keys.specs.Keys.{accidentalFound}
 use Rattle.items.specs.Written.{foundOf}
 use Rattle.items.proofs.Ends.{run-moved, accidental-moved, int-end-moved, mark-end-moved, int-ends, mark-ends}
 

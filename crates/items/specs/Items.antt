@@ -15,13 +15,13 @@ use Rattle.number.specs.declared.decimal.Decimal.{Decimal}
 use Rattle.number.specs.declared.decimal.Decimal.the-variants.{Value, Unreadable, TooLong}
 use Rattle.number.specs.Digits.{valueMost, countMost, intAt}
 use Rattle.number.specs.Decimal.{decimalAt}
-use Rattle.environment.specs.declared.key.Accidental.{Accidental}
-use Rattle.environment.specs.declared.key.Mark.{Mark}
-use Rattle.environment.specs.declared.key.Mark.the-variants.{With, Without}
-use Rattle.environment.specs.declared.key.Key.{Key}
-use Rattle.environment.specs.declared.key.KeyAt.{KeyAt}
-use Rattle.environment.specs.declared.key.KeyAt.the-variants.{Found as KeyFound, Absent as NoKey}
-use Rattle.environment.specs.Keys.{isKeyLetter, noteMarkAt, keyAt}
+use Rattle.keys.specs.declared.key.Accidental.{Accidental}
+use Rattle.keys.specs.declared.key.Mark.{Mark}
+use Rattle.keys.specs.declared.key.Mark.the-variants.{With, Without}
+use Rattle.keys.specs.declared.key.Key.{Key}
+use Rattle.keys.specs.declared.key.KeyAt.{KeyAt}
+use Rattle.keys.specs.declared.key.KeyAt.the-variants.{Found as KeyFound, Absent as NoKey}
+use Rattle.keys.specs.Keys.{isKeyLetter, noteMarkAt, keyAt}
 use Rattle.environment.specs.Ranges.{Amount, digitRun, amountOf}
 
 -- an item of a body, as it is written

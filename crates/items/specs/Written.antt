@@ -4,7 +4,7 @@ use mathlib.Core.Bool.{Bool, true, false}
 use mathlib.Core.List.{List}
 use Prim.Native.Nat.{ℕ, _+_, _-_}
 use lib.ListN.{take, drop}
-use Rattle.environment.specs.Keys.{accidentalFound, keyFound}
+use Rattle.keys.specs.Keys.{accidentalFound, keyFound}
 use Rattle.environment.specs.Ranges.{digitRun, amountOf}
 use Rattle.items.specs.declared.item.Item.{Item}
 use Rattle.items.specs.declared.item.Item.the-variants as Item

@@ -22,7 +22,7 @@ use Rattle.sheet.specs.Lengths.{soundingOf, isCounted}
 use Rattle.sheet.specs.Parts.{releasesOf}
 use Rattle.sheet.proofs.Basics.{false-true, both}
 use Rattle.environment.specs.declared.environment.Environment.{Environment}
-use Rattle.environment.specs.declared.key.Accidental.{Accidental}
+use Rattle.keys.specs.declared.key.Accidental.{Accidental}
 use Rattle.notes.specs.Notes.{noteOf}
 use Rattle.handed.specs.Check.{notePasses}
 

@@ -16,7 +16,7 @@ use Rattle.sheet.specs.declared.note.Note.{Note}
 use Rattle.sheet.proofs.Basics.{both}
 use Rattle.sheet.proofs.Holds.{Holds, holds-going, holds-refused, holds-unless, holds-then, holds-after}
 use Rattle.environment.specs.declared.environment.Environment.{Environment}
-use Rattle.environment.specs.declared.key.Accidental.{Accidental}
+use Rattle.keys.specs.declared.key.Accidental.{Accidental}
 use Rattle.items.specs.Items.{Item, note, up, down, opening, cut, closing, octave, value, tempo, amplitude, key, instrument, call, unknown, itemsOf}
 use Rattle.notes.specs.Notes.{noteOf, valueOf}
 use Rattle.loops.specs.Loops.{Loop, bodyOf, lastPass, copies, bodies, played, playedCount}

@@ -9,7 +9,7 @@ use borrow.Author.Tests.{le-leb, lt-leb}
 use Rattle.text.specs.Characters.{rowOf}
 use Rattle.text.proofs.Rows.{row-past}
 use Rattle.environment.specs.declared.environment.Environment.{Environment}
-use Rattle.environment.specs.declared.key.Accidental.{Accidental}
+use Rattle.keys.specs.declared.key.Accidental.{Accidental}
 use Rattle.notes.specs.Notes.{offsetOf, semitoneOf, semitoneWithin}
 
 -- a rest, and what is no letter

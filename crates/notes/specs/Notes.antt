@@ -11,9 +11,9 @@ use Rattle.tone.specs.Power.{frequencyOf}
 use Rattle.tone.specs.Time.{durationOf}
 use Rattle.sheet.specs.declared.note.Note.{Note}
 use Rattle.environment.specs.declared.environment.Environment.{Environment}
-use Rattle.environment.specs.declared.key.Accidental.{Accidental}
+use Rattle.keys.specs.declared.key.Accidental.{Accidental}
 use Rattle.environment.specs.Bounds.{octaves}
-use Rattle.environment.specs.Keys.{movedBy, keyed}
+use Rattle.keys.specs.Keys.{movedBy, keyed}
 
 -- "offsets c 0, d 2, e 4, f 5, g 7, a 9, b 11, r 0"
 unfoldable pub offsetOf : ℕ → ℕ

@@ -3,14 +3,14 @@
 ghost use mathlib.Core.Path.{_≡_};
 ghost use Prim.Native.Nat.{_≤_};
 ghost use Rattle.tone.specs.Time.{lengthOf};
-ghost use Rattle.environment.specs.Keys.{movedBy, keyed, accidentalFound};
+ghost use Rattle.keys.specs.Keys.{movedBy, keyed, accidentalFound};
 ghost use Rattle.environment.specs.Ranges.{digitRun};
 ghost use Rattle.sheet.specs.Lengths.{isCounted};
 ghost use Rattle.notes.specs.Notes.{offsetOf, semitoneWithin, amplitudeOf, valueOf};
 use environment::environment::Environment;
-use environment::key::Accidental;
-use environment::key::Key;
-use environment::key::Mark;
+use keys::key::Accidental;
+use keys::key::Key;
+use keys::key::Mark;
 use number::digits::Int;
 use tone::time::Length;
 use tone::time::sec_to_len;

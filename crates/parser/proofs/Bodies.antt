@@ -12,7 +12,7 @@ use Rattle.sheet.specs.Refusals.{Outcome, going, _>>_, refuse_on_if_, refuse_on
 use Rattle.sheet.proofs.Holds.{Holds, holds-going, holds-refused, holds-unless, holds-then, holds-after}
 use Rattle.sheet.proofs.Outcomes.{Numbered, numbered-going, numbered-refused, numbered-unless, numbered-then}
 use Rattle.environment.specs.declared.environment.Environment.{Environment}
-use Rattle.environment.specs.declared.key.Key.{Key}
+use Rattle.keys.specs.declared.key.Key.{Key}
 use Rattle.environment.specs.Ranges.{Amount, amount, unreadable, tooLong, readable, loudness}
 use Rattle.environment.specs.Changes.{octaveRead, valueRead, tempoRead, amplitudeRead, keyRead}
 use Rattle.items.specs.Items.{Item, note, up, down, opening, cut, closing, octave, value, tempo, amplitude, key, instrument, call, unknown, itemsOf}

@@ -14,7 +14,7 @@ use Rattle.sheet.proofs.Outcomes.{Numbered, numbered-going, numbered-refused, n
 use Rattle.environment.specs.declared.environment.Environment.{Environment}
 use Rattle.environment.specs.Bounds.{Bounds, tempos, denominators}
 use Rattle.environment.specs.Environment.{withTempo, withDenominator, withKey}
-use Rattle.environment.specs.Keys.{keyAt, keyFound}
+use Rattle.keys.specs.Keys.{keyAt, keyFound}
 use Rattle.environment.specs.Ranges.{digitRun, ranged}
 use Rattle.directive.specs.declared.directive.Directive.{Directive}
 use Rattle.directive.specs.declared.directive.Directive.the-variants.{Tempo, Denominator, OfKey, Refused}

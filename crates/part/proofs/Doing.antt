@@ -12,15 +12,15 @@ use Rattle.number.specs.declared.digits.Int.{Int}
 use Rattle.number.specs.declared.decimal.Decimal.{Decimal}
 use Rattle.sheet.proofs.Basics.{false-true}
 use Rattle.sheet.specs.Refusals.{Outcome, going, _>>=_}
-use Rattle.environment.specs.declared.key.Accidental.{Accidental}
+use Rattle.keys.specs.declared.key.Accidental.{Accidental}
 use Rattle.environment.specs.declared.environment.Environment.{Environment}
 use Rattle.environment.specs.declared.command.Changed.{Changed}
 use Rattle.environment.specs.declared.command.Changed.the-variants.{To}
-use Rattle.environment.specs.declared.key.Key.{Key}
-use Rattle.environment.specs.declared.key.KeyAt.{KeyAt}
+use Rattle.keys.specs.declared.key.Key.{Key}
+use Rattle.keys.specs.declared.key.KeyAt.{KeyAt}
 use Rattle.environment.specs.Changes.{Low, changeOutcome, octaveRead, valueRead, tempoRead, amplitudeRead, keyRead}
 use Rattle.environment.specs.Environment.{octaveUp, octaveDown}
-use Rattle.environment.specs.Keys.{accidentalFound, keyFound}
+use Rattle.keys.specs.Keys.{accidentalFound, keyFound}
 use Rattle.environment.specs.Ranges.{Amount, digitRun, amountOf}
 use Rattle.part.specs.declared.state.State.{State}
 use Rattle.items.specs.declared.item.Item.{Item}

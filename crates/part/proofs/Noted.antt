@@ -19,7 +19,7 @@ use Rattle.sheet.specs.declared.note.Note.{Note}
 use Rattle.sheet.specs.Capacities.{notesMost}
 use Rattle.sheet.specs.Refusals.{going, refused, _>>_, refuse_on_unless_}
 use Rattle.environment.specs.declared.environment.Environment.{Environment}
-use Rattle.environment.specs.declared.key.Accidental.{Accidental}
+use Rattle.keys.specs.declared.key.Accidental.{Accidental}
 use Rattle.part.specs.declared.state.State.{State}
 use Rattle.part.specs.Body.{Progress, Book, noted, withNotes}
 use Rattle.notes.specs.Columns.{notesIn}

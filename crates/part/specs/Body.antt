@@ -12,7 +12,7 @@ use Rattle.sheet.specs.Capacities.{loopsMost, notesMost, nestingMost, stepsMost
 use Rattle.sheet.specs.Refusals.{Outcome, going, refused, _>>=_, _>>_, refuse_on_unless_, refuse_on_without_}
 use Rattle.sheet.specs.declared.note.Note.{Note}
 use Rattle.environment.specs.declared.environment.Environment.{Environment}
-use Rattle.environment.specs.declared.key.Accidental.{Accidental}
+use Rattle.keys.specs.declared.key.Accidental.{Accidental}
 use Rattle.environment.specs.Bounds.{values, within}
 use Rattle.environment.specs.Changes.{octaveRead, valueRead, tempoRead, amplitudeRead, keyRead}
 use Rattle.environment.specs.Environment.{withInstrument, octaveUp, octaveDown}

@@ -6,7 +6,7 @@ ghost use mathlib.Core.List.{List};
 ghost use Prim.Native.Nat.{ℕ, _≤_};
 ghost use lib.ListN.{length};
 ghost use Rattle.sheet.specs.Capacities.{instrumentsMost};
-ghost use Rattle.environment.specs.Keys.{accidentalFound};
+ghost use Rattle.keys.specs.Keys.{accidentalFound};
 ghost use Rattle.environment.specs.Ranges.{digitRun};
 ghost use Rattle.notes.specs.Notes.{valueOf};
 ghost use Rattle.part.specs.Body.{Macro, noted as notedIs};

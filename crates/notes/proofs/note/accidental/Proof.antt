@@ -1,8 +1,8 @@
 -- `accidental` is the definition's two cases. Assumes nothing.
 use mathlib.Core.Path.{sym, ap, _∙_}
 use borrow.Author.Needs.{needs}
-use Rattle.environment.specs.declared.key.Mark.{Mark}
-use Rattle.environment.specs.Keys.{keyed, accidentalFound}
+use Rattle.keys.specs.declared.key.Mark.{Mark}
+use Rattle.keys.specs.Keys.{keyed, accidentalFound}
 use Rattle.notes.proofs.note.accidental.Statement.{statement}
 use Rattle.notes.proofs.note.accidental.Tie as tie
 

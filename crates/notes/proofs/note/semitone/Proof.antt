@@ -2,7 +2,7 @@
 use mathlib.Core.Path.{sym, ap, ap₂, _∙_}
 use Prim.Native.Nat.{ℕ, _+_, _*_}
 use borrow.Author.Needs.{needs}
-use Rattle.environment.specs.Keys.{movedBy}
+use Rattle.keys.specs.Keys.{movedBy}
 use Rattle.notes.specs.Notes.{semitoneOf}
 use Rattle.notes.proofs.Letters.{within-low, within-high}
 use Rattle.notes.proofs.note.semitone.Statement.{statement}

@@ -13,14 +13,14 @@ use lib.Seq.{drop-drop}
 use Rattle.text.specs.Characters.{startsWith, rowOf}
 use Rattle.text.specs.Fronts.{front}
 use Rattle.text.proofs.Fronts.{front-within}
-use Rattle.environment.specs.declared.key.Accidental.{Accidental}
-use Rattle.environment.specs.declared.key.Accidental.the-variants.{DoubleFlat, Flat, Natural, Sharp, DoubleSharp}
-use Rattle.environment.specs.declared.key.Mark.{Mark}
-use Rattle.environment.specs.declared.key.Mark.the-variants.{With, Without}
-use Rattle.environment.specs.declared.key.Key.{Key}
-use Rattle.environment.specs.declared.key.KeyAt.{KeyAt}
-use Rattle.environment.specs.declared.key.KeyAt.the-variants.{Found, Absent}
-use Rattle.environment.specs.Keys.{accidentalOf, keyAccidental, noteAccidental, accidentalWidth, markOf, markAt, noteMarkAt, isKeyLetter, keyOf, keyFrom, keyAt}
+use Rattle.keys.specs.declared.key.Accidental.{Accidental}
+use Rattle.keys.specs.declared.key.Accidental.the-variants.{DoubleFlat, Flat, Natural, Sharp, DoubleSharp}
+use Rattle.keys.specs.declared.key.Mark.{Mark}
+use Rattle.keys.specs.declared.key.Mark.the-variants.{With, Without}
+use Rattle.keys.specs.declared.key.Key.{Key}
+use Rattle.keys.specs.declared.key.KeyAt.{KeyAt}
+use Rattle.keys.specs.declared.key.KeyAt.the-variants.{Found, Absent}
+use Rattle.keys.specs.Keys.{accidentalOf, keyAccidental, noteAccidental, accidentalWidth, markOf, markAt, noteMarkAt, isKeyLetter, keyOf, keyFrom, keyAt}
 
 -- ---- the same text further on
 

@@ -5,7 +5,7 @@ ghost use mathlib.Core.Path.{_≡_};
 ghost use Prim.Native.Nat.{_+_};
 ghost use lib.ListN.{length, drop};
 ghost use Rattle.text.specs.Fronts.{front};
-ghost use Rattle.environment.specs.Keys.{markAt, noteMarkAt, isKeyLetter, among, keyAt, inKey, accidentalIn};
+ghost use Rattle.keys.specs.Keys.{markAt, noteMarkAt, isKeyLetter, among, keyAt, inKey, accidentalIn};
 use text::characters::stands_at;
 
 // How a note is raised or lowered.

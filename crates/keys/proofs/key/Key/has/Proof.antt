@@ -1,9 +1,9 @@
 -- `has` asks for one letter after the other; at each the definition computes. Assumes nothing.
 use mathlib.Core.Path.{sym}
-use Rattle.environment.specs.Keys.{inKey}
-use Rattle.environment.proofs.Letters.{in-at, in-none}
-use Rattle.environment.proofs.key.Key.has.Statement.{statement}
-use Rattle.environment.proofs.key.Key.has.Tie as tie
+use Rattle.keys.specs.Keys.{inKey}
+use Rattle.keys.proofs.Letters.{in-at, in-none}
+use Rattle.keys.proofs.key.Key.has.Statement.{statement}
+use Rattle.keys.proofs.key.Key.has.Tie as tie
 
 returns : tie.Need-returns
 unfolding inKey

@@ -3,9 +3,9 @@ use mathlib.Core.Path.{sym, _∙_}
 use native.Mathlib.Omega.{arith}
 use borrow.Author.Needs.{needs}
 use Rattle.text.proofs.Starts.{starts-within}
-use Rattle.environment.proofs.Marks.{mark-plus, mark-minus, mark-equals, mark-none}
-use Rattle.environment.proofs.key.accidental_at.Statement.{statement}
-use Rattle.environment.proofs.key.accidental_at.Tie as tie
+use Rattle.keys.proofs.Marks.{mark-plus, mark-minus, mark-equals, mark-none}
+use Rattle.keys.proofs.key.accidental_at.Statement.{statement}
+use Rattle.keys.proofs.key.accidental_at.Tie as tie
 
 stands-at-requires : tie.Need-stands-at-requires
 stands-at-requires c κs = search needs

@@ -1,9 +1,9 @@
 -- `get` makes the test of the definition. Assumes nothing.
 use mathlib.Core.Path.{sym, _∙_}
 use borrow.Author.Needs.{needs}
-use Rattle.environment.specs.Keys.{accidentalIn}
-use Rattle.environment.proofs.key.Key.get.Statement.{statement}
-use Rattle.environment.proofs.key.Key.get.Tie as tie
+use Rattle.keys.specs.Keys.{accidentalIn}
+use Rattle.keys.proofs.key.Key.get.Statement.{statement}
+use Rattle.keys.proofs.key.Key.get.Tie as tie
 
 has-requires : tie.Need-has-requires
 has-requires c κs = search needs

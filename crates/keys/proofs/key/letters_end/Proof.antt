@@ -4,10 +4,10 @@ use Prim.Native.Nat.{_-_}
 use native.Mathlib.Omega.{arith}
 use borrow.Author.Needs.{needs}
 use lib.ListN.{length}
-use Rattle.environment.specs.Keys.{isKeyLetter}
+use Rattle.keys.specs.Keys.{isKeyLetter}
 use Rattle.text.proofs.Walks.{Walk, walk-start, walk-more, walk-stop, walk-end}
-use Rattle.environment.proofs.key.letters_end.Statement.{statement}
-use Rattle.environment.proofs.key.letters_end.Tie as tie
+use Rattle.keys.proofs.key.letters_end.Statement.{statement}
+use Rattle.keys.proofs.key.letters_end.Tie as tie
 
 abbrev Inv-loop : tie.InvT-loop
 Inv-loop s i at₀ at = Walk isKeyLetter s i at

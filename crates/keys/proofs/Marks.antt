@@ -9,9 +9,9 @@ use borrow.Author.Tests.{eqb-false}
 use Rattle.text.specs.Characters.{startsWith}
 use Rattle.text.proofs.Rows.{row-none}
 use Rattle.text.proofs.Starts.{starts-cons}
-use Rattle.environment.specs.declared.key.Accidental.the-variants.{DoubleFlat, Flat, Natural, Sharp, DoubleSharp}
-use Rattle.environment.specs.declared.key.Mark.the-variants.{With, Without}
-use Rattle.environment.specs.Keys.{accidentalRows, accidentalOf, keyAccidental, noteAccidental, markOf, markAt, noteMarkAt}
+use Rattle.keys.specs.declared.key.Accidental.the-variants.{DoubleFlat, Flat, Natural, Sharp, DoubleSharp}
+use Rattle.keys.specs.declared.key.Mark.the-variants.{With, Without}
+use Rattle.keys.specs.Keys.{accidentalRows, accidentalOf, keyAccidental, noteAccidental, markOf, markAt, noteMarkAt}
 
 -- ---- a key's
 

@@ -8,12 +8,12 @@ use borrow.Author.Tests.{eq-eqb, ne-eqb}
 use Rattle.text.specs.Fronts.{front}
 use Rattle.text.proofs.Rows.{row-none}
 use Rattle.text.proofs.Fronts.{front-end, front-stop, front-more}
-use Rattle.environment.specs.declared.key.Accidental.{Accidental}
-use Rattle.environment.specs.declared.key.Mark.{Mark}
-use Rattle.environment.specs.declared.key.Mark.the-variants.{With, Without}
-use Rattle.environment.specs.declared.key.Key.{Key}
-use Rattle.environment.specs.declared.key.KeyAt.the-variants.{Found, Absent}
-use Rattle.environment.specs.Keys.{markAt, isKeyLetter, among, keyFrom, keyAt, keyRows, inKey}
+use Rattle.keys.specs.declared.key.Accidental.{Accidental}
+use Rattle.keys.specs.declared.key.Mark.{Mark}
+use Rattle.keys.specs.declared.key.Mark.the-variants.{With, Without}
+use Rattle.keys.specs.declared.key.Key.{Key}
+use Rattle.keys.specs.declared.key.KeyAt.the-variants.{Found, Absent}
+use Rattle.keys.specs.Keys.{markAt, isKeyLetter, among, keyFrom, keyAt, keyRows, inKey}
 
 -- ---- letters of a key
 

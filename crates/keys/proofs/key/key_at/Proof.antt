@@ -1,8 +1,8 @@
 -- `key_at` looks for each letter among those that stand there, and for the accidental behind them. Assumes nothing.
 use borrow.Author.Needs.{needs}
-use Rattle.environment.proofs.Letters.{key-found, key-absent}
-use Rattle.environment.proofs.key.key_at.Statement.{statement}
-use Rattle.environment.proofs.key.key_at.Tie as tie
+use Rattle.keys.proofs.Letters.{key-found, key-absent}
+use Rattle.keys.proofs.key.key_at.Statement.{statement}
+use Rattle.keys.proofs.key.key_at.Tie as tie
 
 letters-end-requires : tie.Need-letters-end-requires
 letters-end-requires c κs = search needs

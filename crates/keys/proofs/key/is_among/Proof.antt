@@ -5,10 +5,10 @@ use native.Mathlib.Omega.{arith}
 use borrow.Author.Needs.{needs}
 use lib.ListN.{length, drop}
 use Rattle.text.specs.Fronts.{front}
-use Rattle.environment.specs.Keys.{isKeyLetter, among}
-use Rattle.environment.proofs.Letters.{among-end, among-stop, among-here, among-later}
-use Rattle.environment.proofs.key.is_among.Statement.{statement}
-use Rattle.environment.proofs.key.is_among.Tie as tie
+use Rattle.keys.specs.Keys.{isKeyLetter, among}
+use Rattle.keys.proofs.Letters.{among-end, among-stop, among-here, among-later}
+use Rattle.keys.proofs.key.is_among.Statement.{statement}
+use Rattle.keys.proofs.key.is_among.Tie as tie
 
 abbrev Inv-loop : tie.InvT-loop
 Inv-loop s i letter at₀ at = among (front isKeyLetter (drop at s)) letter ≡ among (front isKeyLetter (drop i s)) letter

@@ -9,13 +9,13 @@ use lib.Dec.{leb, eqb}
 use lib.ListN.{length, drop}
 use Rattle.text.specs.Characters.{is, startsWith, begins, rowOf}
 use Rattle.text.specs.Fronts.{front}
-use Rattle.environment.specs.declared.key.Accidental.{Accidental}
-use Rattle.environment.specs.declared.key.Accidental.the-variants.{DoubleFlat, Flat, Natural, Sharp, DoubleSharp}
-use Rattle.environment.specs.declared.key.Mark.{Mark}
-use Rattle.environment.specs.declared.key.Mark.the-variants.{With, Without}
-use Rattle.environment.specs.declared.key.Key.{Key}
-use Rattle.environment.specs.declared.key.KeyAt.{KeyAt}
-use Rattle.environment.specs.declared.key.KeyAt.the-variants.{Found, Absent}
+use Rattle.keys.specs.declared.key.Accidental.{Accidental}
+use Rattle.keys.specs.declared.key.Accidental.the-variants.{DoubleFlat, Flat, Natural, Sharp, DoubleSharp}
+use Rattle.keys.specs.declared.key.Mark.{Mark}
+use Rattle.keys.specs.declared.key.Mark.the-variants.{With, Without}
+use Rattle.keys.specs.declared.key.Key.{Key}
+use Rattle.keys.specs.declared.key.KeyAt.{KeyAt}
+use Rattle.keys.specs.declared.key.KeyAt.the-variants.{Found, Absent}
 
 -- ---- accidentals
 

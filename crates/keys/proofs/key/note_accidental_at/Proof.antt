@@ -4,9 +4,9 @@ use Prim.Native.Nat.{_+_}
 use native.Mathlib.Omega.{arith}
 use borrow.Author.Needs.{needs}
 use Rattle.text.proofs.Starts.{starts-within}
-use Rattle.environment.proofs.Marks.{note-plus-plus, note-plus, note-minus-minus, note-minus, note-equals, note-none}
-use Rattle.environment.proofs.key.note_accidental_at.Statement.{statement}
-use Rattle.environment.proofs.key.note_accidental_at.Tie as tie
+use Rattle.keys.proofs.Marks.{note-plus-plus, note-plus, note-minus-minus, note-minus, note-equals, note-none}
+use Rattle.keys.proofs.key.note_accidental_at.Statement.{statement}
+use Rattle.keys.proofs.key.note_accidental_at.Tie as tie
 
 stands-at-requires : tie.Need-stands-at-requires
 stands-at-requires c κs = search needs

@@ -1,8 +1,8 @@
 -- `is_key_letter` is the test of the definition: its comparisons are the branches. Assumes nothing.
 use borrow.Author.Tests.{le-leb, lt-leb}
-use Rattle.environment.specs.Keys.{isKeyLetter}
-use Rattle.environment.proofs.key.is_key_letter.Statement.{statement}
-use Rattle.environment.proofs.key.is_key_letter.Tie as tie
+use Rattle.keys.specs.Keys.{isKeyLetter}
+use Rattle.keys.proofs.key.is_key_letter.Statement.{statement}
+use Rattle.keys.proofs.key.is_key_letter.Tie as tie
 
 returns : tie.Need-returns
 unfolding isKeyLetter

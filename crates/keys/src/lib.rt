@@ -1,0 +1,3 @@
+// Keys and accidentals, and how a text writes them.
+
+pub mod key;
