@@ -21,7 +21,8 @@ use Rattle.items.specs.Items.{Item, note, up, down, opening, cut, closing, octa
 use Rattle.notes.specs.Notes.{noteOf, valueOf}
 use Rattle.loops.specs.Loops.{Loop, bodyOf, lastPass, copies, bodies, played, playedCount}
 use Rattle.loops.proofs.LoopCounts.{played-count}
-use Rattle.part.specs.Body.{Macro, Book, Progress, noted, opened, cutHere, closed, changing, called, does, stepped, run, inside, bodyRead, oneStep}
+use Rattle.tables.specs.Named.{Macro}
+use Rattle.part.specs.Body.{Book, Progress, noted, opened, cutHere, closed, changing, called, does, stepped, run, inside, bodyRead, oneStep}
 use Rattle.handed.specs.Check.{all}
 use Rattle.handed.proofs.Alls.{all-append}
 

@@ -17,7 +17,8 @@ use Rattle.sheet.specs.Refusals.{Outcome, going, _>>=_, _>>_, refuse_on_unless_
 use Rattle.environment.specs.declared.environment.Environment.{Environment}
 use Rattle.environment.specs.Environment.{atTheStart}
 use Rattle.operators.specs.OperatorLines.{operatorLines, operatorsRead}
-use Rattle.part.specs.Body.{Macro, Book}
+use Rattle.tables.specs.Named.{Macro}
+use Rattle.part.specs.Body.{Book}
 use Rattle.tables.specs.Tables.{macroOf, headerOf}
 use Rattle.sheet.specs.Lengths.{endOf}
 use Rattle.directive.specs.Directives.{directiveOf}

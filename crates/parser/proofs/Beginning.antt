@@ -16,7 +16,7 @@ use Rattle.operators.specs.declared.block.Block.{Block}
 use Rattle.operators.specs.OperatorLines.{operatorLines, operatorsRead}
 use Rattle.operators.specs.Blocks.{linesIn, blockOutcome}
 use Rattle.commands.specs.Commands.{clipped, linesHeld}
-use Rattle.part.specs.Columns.{macrosIn}
+use Rattle.tables.specs.Named.{macrosIn}
 use Rattle.text.specs.Names.{namesIn}
 use Rattle.layout.specs.Regions.{region}
 use Rattle.layout.specs.Layout.{linesAt, linesFrom, notesFrom}

@@ -17,7 +17,8 @@ use Rattle.environment.specs.Ranges.{Amount, amount, unreadable, tooLong, reada
 use Rattle.environment.specs.Changes.{octaveRead, valueRead, tempoRead, amplitudeRead, keyRead}
 use Rattle.items.specs.Items.{Item, note, up, down, opening, cut, closing, octave, value, tempo, amplitude, key, instrument, call, unknown, itemsOf}
 use Rattle.parser.proofs.Numbers.{numbered-without, ranged-numbered}
-use Rattle.part.specs.Body.{Macro, Book, Progress, oneStep, noted, opened, cutHere, closed, changing, called, does, stepped, run, inside, bodyRead}
+use Rattle.tables.specs.Named.{Macro}
+use Rattle.part.specs.Body.{Book, Progress, oneStep, noted, opened, cutHere, closed, changing, called, does, stepped, run, inside, bodyRead}
 
 -- ---- a refusal's number
 

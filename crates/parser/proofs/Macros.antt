@@ -11,8 +11,7 @@ use Rattle.sheet.specs.Capacities.{macrosMost}
 use Rattle.sheet.specs.Refusals.{Outcome, going, refused}
 use Rattle.sheet.proofs.Holds.{Holds, holds-going, holds-of, holds-unless, holds-after}
 use Rattle.sheet.proofs.Outcomes.{then-going, then-refused}
-use Rattle.part.specs.Body.{Macro}
-use Rattle.part.specs.Columns.{macrosIn}
+use Rattle.tables.specs.Named.{Macro, macrosIn}
 use Rattle.tables.specs.Tables.{macroOf, macroLine, numberOf, namesAfter, bodiesAfter}
 use Rattle.tables.proofs.MacrosGrown.{macros-grown}
 use Rattle.tables.proofs.Taken.{macros-many}

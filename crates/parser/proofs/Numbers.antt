@@ -19,7 +19,7 @@ use Rattle.environment.specs.Ranges.{digitRun, ranged}
 use Rattle.directive.specs.declared.directive.Directive.{Directive}
 use Rattle.directive.specs.declared.directive.Directive.the-variants.{Tempo, Denominator, OfKey, Refused}
 use Rattle.directive.specs.Directives.{directives, changeOf, directiveOf, directiveOutcome, applied}
-use Rattle.part.specs.Body.{Macro}
+use Rattle.tables.specs.Named.{Macro}
 use Rattle.tables.specs.Tables.{macroOf, headerOf, numberOf}
 
 pub numbered-without : {A : Type 0} (n l : ℕ) (x : Option A) → 0 < n → Numbered (refuse_on_without_ n l x)

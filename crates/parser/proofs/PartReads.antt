@@ -12,7 +12,8 @@ use Rattle.sheet.specs.Refusals.{Outcome, going, refused}
 use Rattle.sheet.proofs.Outcomes.{then-going, then-refused}
 use Rattle.environment.specs.declared.environment.Environment.{Environment}
 use Rattle.part.specs.Body.{Book}
-use Rattle.part.specs.Columns.{macrosIn, bookIn}
+use Rattle.tables.specs.Named.{macrosIn}
+use Rattle.part.specs.Columns.{bookIn}
 use Rattle.layout.specs.Layout.{linesFrom}
 use Rattle.parser.specs.declared.sofar.Sofar.{Sofar}
 use Rattle.meaning.specs.Parts.{Played, linePlayed}

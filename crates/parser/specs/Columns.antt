@@ -17,7 +17,8 @@ use Rattle.environment.specs.Environment.{atTheStart}
 use Rattle.operators.specs.declared.block.Block.{Block}
 use Rattle.operators.specs.OperatorLines.{operatorLines, operatorsRead}
 use Rattle.operators.specs.Blocks.{blockOutcome}
-use Rattle.part.specs.Columns.{loopsIn, macrosIn}
+use Rattle.tables.specs.Named.{macrosIn}
+use Rattle.part.specs.Columns.{loopsIn}
 use Rattle.layout.specs.Regions.{region}
 use Rattle.layout.specs.Layout.{notesAt, notesFrom, linesFrom}
 use Rattle.parser.specs.declared.sofar.Sofar.{Sofar}

@@ -7,9 +7,7 @@ use Prim.Native.Nat.{ℕ, zero, suc, _+_, _≤_, _<_}
 use native.Mathlib.Omega.{arith}
 use lib.ListN.{length}
 use lib.Ieee.{Float}
-use Rattle.text.specs.Characters.{same}
 use Rattle.text.specs.Names.{placeAmong}
-use Rattle.text.proofs.Places.{among-here, among-past}
 use Rattle.sheet.specs.Refusals.{Outcome, going, refused, _>>=_, refuse_on_without_}
 use Rattle.environment.specs.declared.environment.Environment.{Environment}
 use Rattle.environment.specs.declared.command.Changed.{Changed}
@@ -17,8 +15,10 @@ use Rattle.environment.specs.declared.command.Changed.the-variants.{To, Refused
 use Rattle.environment.specs.Changes.{changeOutcome, Low}
 use Rattle.environment.specs.Environment.{withInstrument}
 use Rattle.items.specs.Items.{instrument}
+use Rattle.tables.proofs.Named.{place-found, place-none}
 use Rattle.part.specs.declared.state.State.{State}
-use Rattle.part.specs.Body.{Macro, Book, Progress, changedTo, changing, does, placeOf}
+use Rattle.tables.specs.Named.{Macro, placeOf}
+use Rattle.part.specs.Body.{Book, Progress, changedTo, changing, does}
 use Rattle.part.specs.Columns.{progressOf, Ready, Becomes}
 use Rattle.part.proofs.Columns.{withEnv, refusedAt, refused-becomes, going-becomes}
 
@@ -56,34 +56,6 @@ module _ (s : State) (line : ℕ) (c : Changed) (low : Low (changeOutcome line c
       (ap (λ (x : Changed). changing (changeOutcome line x) (progressOf s fs is ls)) q)
 
 -- ---- instruments by name
-
-module _ (name : List ℕ) where
-  place-past : (x : List ℕ) (xs : List (List ℕ)) (n : ℕ) → same name x ≡ false → placeOf name n (x ∷ xs) ≡ placeOf name (n + 1) xs
-  unfolding placeOf
-  place-past x xs n e = rw (e, placeOf)
-
-  place-here : (x : List ℕ) (xs : List (List ℕ)) (n : ℕ) → same name x ≡ true → placeOf name n (x ∷ xs) ≡ some n
-  unfolding placeOf
-  place-here x xs n e = rw (e, placeOf)
-
-  -- the place of a name by how many stand before it
-  pub place-found : (xs : List (List ℕ)) (n : ℕ) → placeAmong name xs < length xs → placeOf name n xs ≡ some (placeAmong name xs + n)
-  place-found [] n h = absurd (omega (arith, h))
-  place-found (x ∷ xs) n h = go (same name x) refl (place-found xs (n + 1))
-    where
-      go : (t : Bool) → same name x ≡ t → (placeAmong name xs < length xs → placeOf name (n + 1) xs ≡ some (placeAmong name xs + (n + 1)))
-          → placeOf name n (x ∷ xs) ≡ some (placeAmong name (x ∷ xs) + n)
-      go true e ih = place-here x xs n e ∙ ap some (omega (arith, among-here name x xs e))
-      go false e ih = place-past x xs n e ∙ ih (omega (arith, h, among-past name x xs e)) ∙ ap some (omega (arith, among-past name x xs e))
-
-  pub place-none : (xs : List (List ℕ)) (n : ℕ) → length xs ≤ placeAmong name xs → placeOf name n xs ≡ none
-  unfolding placeOf
-  place-none [] n h = refl
-  place-none (x ∷ xs) n h = go (same name x) refl (place-none xs (n + 1))
-    where
-      go : (t : Bool) → same name x ≡ t → (length xs ≤ placeAmong name xs → placeOf name (n + 1) xs ≡ none) → placeOf name n (x ∷ xs) ≡ none
-      go true e ih = absurd (omega (arith, h, among-here name x xs e))
-      go false e ih = place-past x xs n e ∙ ih (omega (arith, h, among-past name x xs e))
 
 module _ (s : State) (line : ℕ) (name : List ℕ) (book : Book) (inner : Macro → Progress → Outcome Progress) (fs : List Float) (is ls : List ℕ) (r : Ready s fs is ls) where
   module _ (place : ℕ) (e : place ≡ placeAmong name (book .names)) where

@@ -26,7 +26,8 @@ use Rattle.part.specs.declared.state.State.{State}
 use Rattle.items.specs.declared.item.Item.{Item}
 use Rattle.items.specs.declared.item.Item.the-variants as Item
 use Rattle.items.specs.declared.item.WrittenNote.{WrittenNote}
-use Rattle.part.specs.Body.{Macro, Book, Progress, noted, opened, cutHere, closed, changing, called, does}
+use Rattle.tables.specs.Named.{Macro}
+use Rattle.part.specs.Body.{Book, Progress, noted, opened, cutHere, closed, changing, called, does}
 use Rattle.part.specs.Columns.{progressOf, Ready, Becomes}
 use Rattle.items.specs.Items as Items
 use Rattle.notes.specs.Notes.{valueOf}

@@ -2,7 +2,6 @@ pub mod Changed
 pub mod Closing
 pub mod Columns
 pub mod Doing
-pub mod Macros
 pub mod Noted
 pub mod Played
 pub mod Running

@@ -18,7 +18,8 @@ use Rattle.sheet.proofs.Outcomes.{then-going, then-refused}
 use Rattle.sheet.specs.Refusals.{Outcome, refused, _>>=_, _>>_, refuse_on_unless_, refuse_on_without_}
 use Rattle.part.specs.declared.state.State.{State}
 use Rattle.items.specs.declared.item.Found.{Found}
-use Rattle.part.specs.Body.{Macro, Book, Progress, macroNamed, called, does, stepped, run, inside}
+use Rattle.tables.specs.Named.{Macro, macroNamed}
+use Rattle.part.specs.Body.{Book, Progress, called, does, stepped, run, inside}
 use Rattle.part.specs.Columns.{progressOf, outcomeOf, Ready, Becomes}
 use Rattle.items.specs.Items as Items
 use Rattle.items.specs.Items.{itemAt, itemsFrom, itemsOf}

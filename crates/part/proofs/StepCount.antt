@@ -8,7 +8,8 @@ use Rattle.sheet.specs.Capacities.{nestingMost, stepsMost}
 use Rattle.sheet.specs.Refusals.{Outcome}
 use Rattle.sheet.proofs.Holds.{Holds, holds-going, holds-refused, holds-unless, holds-then, holds-after}
 use Rattle.items.specs.Items.{Item, note, up, down, opening, cut, closing, octave, value, tempo, amplitude, key, instrument, call, unknown, itemsOf}
-use Rattle.part.specs.Body.{Macro, Book, Progress, oneStep, noted, opened, cutHere, closed, changing, called, does, stepped, run, inside, bodyRead}
+use Rattle.tables.specs.Named.{Macro}
+use Rattle.part.specs.Body.{Book, Progress, oneStep, noted, opened, cutHere, closed, changing, called, does, stepped, run, inside, bodyRead}
 
 -- no more than the limit
 abbrev pub Counted : Progress → Type 0

@@ -7,7 +7,6 @@ use Prim.Native.Nat.{ℕ, zero, suc, _+_}
 use lib.Dec.{leb, ltb}
 use lib.ListN.{length, getD}
 use lib.Ieee.{Float, nan}
-use Rattle.text.specs.Characters.{same}
 use Rattle.sheet.specs.Capacities.{loopsMost, notesMost, nestingMost, stepsMost}
 use Rattle.sheet.specs.Refusals.{Outcome, going, refused, _>>=_, _>>_, refuse_on_unless_, refuse_on_without_}
 use Rattle.sheet.specs.declared.note.Note.{Note}
@@ -20,6 +19,7 @@ use Rattle.items.specs.Items.{Item, note, up, down, opening, cut, closing, octa
 use Rattle.loops.specs.Loops.{Loop, played, playedCount, innermost, counted}
 use Rattle.sheet.specs.Lengths.{soundingOf, isCounted}
 use Rattle.notes.specs.Notes.{noteOf, valueOf}
+use Rattle.tables.specs.Named.{Macro, macroNamed, placeOf}
 
 -- ---- what a body is read in
 
@@ -28,12 +28,6 @@ pub record Part : Type 0 where
   pub env : Environment
   pub notes : List Note
   pub loops : List Loop
-
--- a macro: its name, its body, and its own line
-pub record Macro : Type 0 where
-  pub name : List ℕ
-  pub body : List ℕ
-  pub line : ℕ
 
 -- what a body may name: macros, and instruments by their names from 1 on; the releases of all instruments from 0 on; and the rate at which notes are
 -- counted in samples
@@ -61,20 +55,6 @@ changedTo e p = withPart e (p .part .notes) (p .part .loops) p
 
 abbrev pub oneStep : Progress → Progress
 oneStep p = record { part = p .part; others = p .others; steps = p .steps + 1 }
-
--- ---- names
-
--- the macro of a name
-unfoldable pub macroNamed : List ℕ → List Macro → Option Macro
-unfolding same
-macroNamed name [] = none
-macroNamed name (m ∷ ms) = elim (same name (m .name)) [ true ↦ some m | false ↦ macroNamed name ms ]
-
--- the place of a name in a list, counted from n
-unfoldable pub placeOf : List ℕ → ℕ → List (List ℕ) → Option ℕ
-unfolding same
-placeOf name n [] = none
-placeOf name n (x ∷ xs) = elim (same name x) [ true ↦ some n | false ↦ placeOf name (n + 1) xs ]
 
 -- ---- items, on a line and with a book
 

@@ -6,14 +6,15 @@ use Prim.Native.Nat.{ℕ, zero, suc, _+_, _*_, _≤_}
 use lib.Dec.{ltb}
 use lib.ListN.{length, take, getD}
 use lib.Ieee.{Float}
-use Rattle.text.specs.Names.{between, namesIn}
+use Rattle.text.specs.Names.{namesIn}
 use Rattle.sheet.specs.Capacities.{loopsMost, notesMost}
 use Rattle.sheet.specs.Refusals.{Outcome, going, refused, _>>_, refuse_on_unless_}
 use Rattle.sheet.specs.declared.note.Note.{Note}
 use Rattle.loops.specs.Loops.{Loop, cutOf}
 use Rattle.notes.specs.Columns.{notesIn}
+use Rattle.tables.specs.Named.{macrosIn, Macro}
 use Rattle.part.specs.declared.state.State.{State}
-use Rattle.part.specs.Body.{Progress, Macro, Book, withNotes}
+use Rattle.part.specs.Body.{Progress, Book, withNotes}
 
 -- ---- loops
 
@@ -73,14 +74,6 @@ laid line n p = do
   going (withNotes (p .part .notes ++ (n ∷ [])) (p .part .loops) p)
 
 -- ---- the book
-
--- macros in two tables: in the one where each name begins and ends, in the other where its body ends, which begins where the name ends, and its line
-unfoldable pub macrosIn : List ℕ → List ℕ → List ℕ → List Macro
-macrosIn s [] bs = []
-macrosIn s (a ∷ []) bs = []
-macrosIn s (a ∷ b ∷ ns) [] = []
-macrosIn s (a ∷ b ∷ ns) (e ∷ []) = []
-macrosIn s (a ∷ b ∷ ns) (e ∷ l ∷ bs) = record { name = between s a b; body = between s b e; line = l } ∷ macrosIn s ns bs
 
 abbrev pub bookOf : ℕ → List Macro → List (List ℕ) → List Float → Book
 bookOf rate ms ns rs = record { macros = ms; names = ns; releases = rs; rate = rate }

@@ -7,8 +7,7 @@ use lib.ListN.{length, take, drop, set, length-append}
 use lib.Seq.{length-take-le, sets-eq, take-at}
 use Rattle.text.specs.Names.{between, namesIn}
 use Rattle.sheet.specs.Refusals.{Outcome, going, refused}
-use Rattle.part.specs.Body.{Macro}
-use Rattle.part.specs.Columns.{macrosIn}
+use Rattle.tables.specs.Named.{Macro, macrosIn}
 use Rattle.tables.specs.Tables.{withEntry, numberOf}
 
 -- ---- one more entry

@@ -11,7 +11,7 @@ use borrow.Author.Tests.{le-leb, lt-leb, lt-ltb, le-ltb, eq-eqb, ne-eqb}
 use Rattle.text.specs.Names.{between, namesIn, placeAmong}
 use Rattle.text.proofs.Places.{between-cut}
 use Rattle.sheet.specs.Refusals.{Outcome, going, refused, _>>_, refuse_on_unless_}
-use Rattle.part.specs.Body.{placeOf}
+use Rattle.tables.specs.Named.{placeOf}
 use Rattle.tables.specs.Tables.{isNone, headerOf, headerLine, withEntry, numberOf, headersAfter, lineFrom, lineEnd}
 use Rattle.tables.proofs.Taken.{names-many, name-there, name-absent}
 

@@ -14,8 +14,7 @@ use Rattle.text.specs.Tokens.{Named, namedOf, nameAt, namedBy}
 use Rattle.text.proofs.Places.{between-cut}
 use Rattle.text.proofs.Named.{named-is, name-within}
 use Rattle.sheet.specs.Refusals.{Outcome, going, refused, _>>=_, _>>_, refuse_on_unless_, refuse_on_without_}
-use Rattle.part.specs.Body.{Macro, macroNamed}
-use Rattle.part.specs.Columns.{macrosIn}
+use Rattle.tables.specs.Named.{Macro, macroNamed, macrosIn}
 use Rattle.tables.specs.Tables.{isNone, macroOf, macroLine, withEntry, numberOf, namesAfter, bodiesAfter, lineFrom, lineEnd}
 use Rattle.tables.proofs.Taken.{macros-many, macro-there, macro-absent}
 

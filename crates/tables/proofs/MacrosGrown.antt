@@ -13,8 +13,7 @@ use Rattle.text.specs.Names.{between, namesIn, placeAmong}
 use Rattle.text.specs.Tokens.{nameAt}
 use Rattle.text.proofs.Places.{between-part, between-rest}
 use Rattle.sheet.specs.Refusals.{Outcome, going}
-use Rattle.part.specs.Body.{Macro}
-use Rattle.part.specs.Columns.{macrosIn}
+use Rattle.tables.specs.Named.{Macro, macrosIn}
 use Rattle.tables.specs.Tables.{macroLine, numberOf, namesAfter, bodiesAfter, lineFrom, lineEnd}
 use Rattle.tables.proofs.Entries.{entry-last, macros-last, same-given, not-refused}
 use Rattle.tables.proofs.MacroLines.{name-ends, macro-many, macro-unnamed, macro-bare, macro-five, macro-taken, macro-full, macro-going, macro-new}

@@ -11,10 +11,8 @@ use lib.Seq.{length-take-le}
 use borrow.Author.Tests.{ltb-true, ltb-false}
 use Rattle.text.specs.Names.{namesIn, placeAmong}
 use Rattle.text.proofs.Places.{names-halved}
-use Rattle.part.specs.Body.{macroNamed, placeOf}
-use Rattle.part.specs.Columns.{macrosIn}
-use Rattle.part.proofs.Macros.{macroAt, macro-known, macro-unknown}
-use Rattle.part.proofs.Changed.{place-found, place-none}
+use Rattle.tables.specs.Named.{macroNamed, placeOf, macrosIn}
+use Rattle.tables.proofs.Named.{macroAt, macro-known, macro-unknown, place-found, place-none}
 
 -- ---- counts
 

@@ -10,8 +10,7 @@ use Rattle.text.specs.Names.{between, namesIn}
 use Rattle.text.specs.Tokens.{namedOf, nameAt}
 use Rattle.sheet.specs.Capacities.{macrosMost, instrumentsMost}
 use Rattle.sheet.specs.Refusals.{Outcome, going, refused, _>>=_, _>>_, refuse_on_unless_, refuse_on_without_}
-use Rattle.part.specs.Body.{Macro, macroNamed, placeOf}
-use Rattle.part.specs.Columns.{macrosIn}
+use Rattle.tables.specs.Named.{Macro, macroNamed, placeOf, macrosIn}
 
 -- whether nothing is there
 unfoldable pub isNone : {A : Type 0} → Option A → Bool

@@ -9,7 +9,7 @@ use Rattle.items.proofs.Starts.{item-there}
 use Rattle.part.specs.Body.{inside}
 use Rattle.part.specs.Columns.{bookIn}
 use Rattle.part.proofs.Doing.{written-call, done-as, does-call}
-use Rattle.part.proofs.Macros.{macro-known, macro-unknown, macro-bodiless}
+use Rattle.tables.proofs.Named.{macro-known, macro-unknown, macro-bodiless}
 use Rattle.part.proofs.Running.{Running, run-start, run-end, run-refused, run-more, items-none, items-stop, items-found, step-ready, step-none, step-some, call-unknown, call-deep, call-known}
 use native.Mathlib.Omega.{arith}
 use borrow.Author.Needs.{needs}

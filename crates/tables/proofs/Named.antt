@@ -1,4 +1,5 @@
--- A macro by its name: where its name stands in the table of names there stands its body in the other, and it is the macro of the definition. Assumes nothing.
+-- A macro by its name: where its name stands in the table of names there stands its body in the other, and it is the macro of the definition. An
+-- instrument by its name likewise. Assumes nothing.
 use mathlib.Core.Path.{_≡_, refl, sym, ap, ap₂, _∙_}
 use mathlib.Core.Bool.{Bool, true, false}
 use mathlib.Core.List.{List, [], _∷_}
@@ -9,8 +10,7 @@ use lib.ListN.{length, getD}
 use Rattle.text.specs.Characters.{same}
 use Rattle.text.specs.Names.{between, namesIn, placeAmong}
 use Rattle.text.proofs.Places.{among-here, among-past}
-use Rattle.part.specs.Body.{Macro, macroNamed}
-use Rattle.part.specs.Columns.{macrosIn}
+use Rattle.tables.specs.Named.{Macro, macroNamed, placeOf, macrosIn}
 
 -- the macro at a place of the two tables
 abbrev macroOf : List ℕ → ℕ → ℕ → ℕ → ℕ → Macro
@@ -109,3 +109,33 @@ module _ (s name : List ℕ) where
 
     pub macro-bodiless : length bs < 2 * place + 2 → macroNamed name (macrosIn s ns bs) ≡ none
     macro-bodiless h = macro-short ns bs (omega (arith, h, e))
+
+-- ---- places of names
+
+module _ (name : List ℕ) where
+  place-past : (x : List ℕ) (xs : List (List ℕ)) (n : ℕ) → same name x ≡ false → placeOf name n (x ∷ xs) ≡ placeOf name (n + 1) xs
+  unfolding placeOf
+  place-past x xs n e = rw (e, placeOf)
+
+  place-here : (x : List ℕ) (xs : List (List ℕ)) (n : ℕ) → same name x ≡ true → placeOf name n (x ∷ xs) ≡ some n
+  unfolding placeOf
+  place-here x xs n e = rw (e, placeOf)
+
+  -- the place of a name by how many stand before it
+  pub place-found : (xs : List (List ℕ)) (n : ℕ) → placeAmong name xs < length xs → placeOf name n xs ≡ some (placeAmong name xs + n)
+  place-found [] n h = absurd (omega (arith, h))
+  place-found (x ∷ xs) n h = go (same name x) refl (place-found xs (n + 1))
+    where
+      go : (t : Bool) → same name x ≡ t → (placeAmong name xs < length xs → placeOf name (n + 1) xs ≡ some (placeAmong name xs + (n + 1)))
+          → placeOf name n (x ∷ xs) ≡ some (placeAmong name (x ∷ xs) + n)
+      go true e ih = place-here x xs n e ∙ ap some (omega (arith, among-here name x xs e))
+      go false e ih = place-past x xs n e ∙ ih (omega (arith, h, among-past name x xs e)) ∙ ap some (omega (arith, among-past name x xs e))
+
+  pub place-none : (xs : List (List ℕ)) (n : ℕ) → length xs ≤ placeAmong name xs → placeOf name n xs ≡ none
+  unfolding placeOf
+  place-none [] n h = refl
+  place-none (x ∷ xs) n h = go (same name x) refl (place-none xs (n + 1))
+    where
+      go : (t : Bool) → same name x ≡ t → (length xs ≤ placeAmong name xs → placeOf name (n + 1) xs ≡ none) → placeOf name n (x ∷ xs) ≡ none
+      go true e ih = absurd (omega (arith, h, among-here name x xs e))
+      go false e ih = place-past x xs n e ∙ ih (omega (arith, h, among-past name x xs e))
