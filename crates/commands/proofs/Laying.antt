@@ -17,7 +17,7 @@ use Rattle.instrument.specs.declared.machine.Slot.{Slot}
 use Rattle.instrument.specs.declared.machine.Instrument.{Instrument}
 use Rattle.instrument.specs.Lines.{Line, outdent, downward, commandsOf, larger, releaseFrom, releaseOf}
 use Rattle.instrument.proofs.CommandCount.{outdent-few, downward-few}
-use Rattle.operators.specs.Blocks.{linesIn}
+use Rattle.blocks.specs.Blocks.{linesIn}
 use Rattle.commands.specs.declared.layout.Laid.{Laid}
 use Rattle.commands.specs.Commands.{noCommand, clipped, instrumentOf, linesHeld}
 use Rattle.sheet.proofs.Padded.{padded-set}

@@ -10,7 +10,7 @@ use Rattle.instrument.specs.declared.machine.Instrument.{Instrument}
 use Rattle.instrument.specs.Lines.{Line, commandsOf, releaseOf}
 use Rattle.sheet.specs.Padding.{padded}
 use Rattle.sheet.specs.Capacities.{operatorsMost, commandsMost, feedbackMost}
-use Rattle.operators.specs.Blocks.{linesIn}
+use Rattle.blocks.specs.Blocks.{linesIn}
 
 -- a command that says nothing
 abbrev pub noCommand : Slot

@@ -9,7 +9,7 @@ use Rattle.instrument.specs.declared.operator.Operator.{Operator}
 use Rattle.instrument.specs.declared.machine.Command.{Command}
 use Rattle.instrument.specs.Lines.{Line}
 use Rattle.sheet.specs.Capacities.{commandsMost, feedbackMost}
-use Rattle.operators.specs.Blocks.{linesIn}
+use Rattle.blocks.specs.Blocks.{linesIn}
 use Rattle.commands.specs.declared.layout.Laid.{Laid}
 use Rattle.commands.specs.Commands.{noCommand, clipped}
 use Rattle.sheet.specs.Padding.{padded}

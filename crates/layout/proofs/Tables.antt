@@ -7,7 +7,7 @@ use native.Mathlib.Omega.{arith}
 use lib.ListN.{length, getD, length-map, List·getD-map}
 use lib.Ieee.{Float}
 use Rattle.instrument.specs.declared.machine.Instrument.{Instrument}
-use Rattle.operators.specs.Blocks.{linesIn}
+use Rattle.blocks.specs.Blocks.{linesIn}
 use Rattle.commands.specs.Commands.{clipped, instrumentOf, linesHeld}
 use Rattle.layout.specs.Layout.{linesAt, linesFrom}
 use Rattle.layout.specs.Regions.{region}

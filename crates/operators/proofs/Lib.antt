@@ -1,5 +1,3 @@
 pub mod Examples
 pub mod Indents
-pub mod Kept
-pub mod Reading
 pub mod Steps

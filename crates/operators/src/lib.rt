@@ -1,4 +1,3 @@
 // Operator lines (the Rust's `parser/instrument.rs`): from a line's text to an operator.
 
-pub mod block;
 pub mod line;

@@ -12,9 +12,9 @@ use Rattle.text.specs.Lines.{linesOf}
 use Rattle.instrument.specs.Lines.{Line, releaseOf}
 use Rattle.sheet.specs.Refusals.{Outcome, going, refused, _>>=_, _>>_, refuse_on_unless_, refuse_on_without_}
 use Rattle.environment.specs.Environment.{atTheStart}
-use Rattle.operators.specs.declared.block.Block.{Block}
+use Rattle.blocks.specs.declared.block.Block.{Block}
 use Rattle.operators.specs.OperatorLines.{operatorLines, operatorsRead}
-use Rattle.operators.specs.Blocks.{linesIn, blockOutcome}
+use Rattle.blocks.specs.Blocks.{linesIn, blockOutcome}
 use Rattle.commands.specs.Commands.{clipped, linesHeld}
 use Rattle.tables.specs.Named.{macrosIn}
 use Rattle.text.specs.Names.{namesIn}

@@ -9,9 +9,9 @@ use lib.ListN.{length, drop}
 use lib.Ieee.{Float}
 use borrow.Author.Tests.{le-leb}
 use Rattle.text.specs.Lines.{linesOf}
-use Rattle.operators.specs.declared.block.Block.{Block}
+use Rattle.blocks.specs.declared.block.Block.{Block}
 use Rattle.operators.specs.OperatorLines.{operatorLines, operatorsRead}
-use Rattle.operators.specs.Blocks.{blockRead, blockOutcome}
+use Rattle.blocks.specs.Blocks.{blockRead, blockOutcome}
 use Rattle.layout.proofs.Regions.{lent, back, lent-region, region-wide, back-here, back-beside}
 use Rattle.parser.specs.Columns.{Blocked}
 

@@ -17,9 +17,9 @@ use Rattle.sheet.specs.Capacities.{instrumentsMost}
 use Rattle.sheet.specs.Refusals.{Outcome, going, refused}
 use Rattle.sheet.proofs.Holds.{Holds, holds-going, holds-of, holds-unless}
 use Rattle.sheet.proofs.Outcomes.{then-going, then-refused}
-use Rattle.operators.specs.declared.block.Block.{Block}
+use Rattle.blocks.specs.declared.block.Block.{Block}
 use Rattle.operators.specs.OperatorLines.{operatorLines, operatorsRead}
-use Rattle.operators.specs.Blocks.{linesIn, blockOutcome}
+use Rattle.blocks.specs.Blocks.{linesIn, blockOutcome}
 use Rattle.commands.specs.Commands.{linesHeld}
 use Rattle.layout.specs.Regions.{region}
 use Rattle.layout.specs.Layout.{linesAt, linesFrom}

@@ -13,7 +13,7 @@ use Rattle.instrument.specs.Lines.{Line}
 use Rattle.sheet.specs.Capacities.{feedbackMost}
 use Rattle.sheet.proofs.Holds.{Holds, holds-going, holds-unless, holds-then, holds-after}
 use Rattle.operators.specs.OperatorLines.{indentOf, feedbackRead, operatorOf, operatorRead, operatorsRead}
-use Rattle.operators.specs.Blocks.{linesIn}
+use Rattle.blocks.specs.Blocks.{linesIn}
 use Rattle.operators.proofs.Indents.{holds-indented}
 use Rattle.commands.specs.Commands.{clipped, linesHeld}
 

@@ -14,9 +14,9 @@ use Rattle.sheet.specs.Capacities.{sourceMost, partsMost, notesMost, loopsMost,
 use Rattle.sheet.specs.Refusals.{Outcome, going, refused}
 use Rattle.environment.specs.declared.environment.Environment.{Environment}
 use Rattle.environment.specs.Environment.{atTheStart}
-use Rattle.operators.specs.declared.block.Block.{Block}
+use Rattle.blocks.specs.declared.block.Block.{Block}
 use Rattle.operators.specs.OperatorLines.{operatorLines, operatorsRead}
-use Rattle.operators.specs.Blocks.{blockOutcome}
+use Rattle.blocks.specs.Blocks.{blockOutcome}
 use Rattle.tables.specs.Named.{macrosIn}
 use Rattle.part.specs.Columns.{loopsIn}
 use Rattle.layout.specs.Regions.{region}

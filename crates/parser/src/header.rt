@@ -15,9 +15,9 @@ ghost use Rattle.meaning.specs.Sheets.{plain, headerRead};
 ghost use Rattle.parser.specs.Columns.{tablesOf, readIn, Fits, Tabled, Begins, Goes, Blocked};
 use crate::sofar::Sofar;
 use crate::steps::refused;
+use blocks::block::Block;
+use blocks::block::read_block;
 use commands::layout::release_held;
-use operators::block::Block;
-use operators::block::read_block;
 use tables::table::header_line;
 
 // The operator lines from place `at` on, in the regions of the instrument i.

@@ -11,7 +11,7 @@ use Rattle.sheet.specs.Refusals.{Outcome, going, refused, _>>_, refuse_on_if_}
 use Rattle.sheet.proofs.Outcomes.{Numbered, numbered-going, numbered-unless, numbered-then}
 use Rattle.environment.specs.declared.environment.Environment.{Environment}
 use Rattle.operators.specs.OperatorLines.{operatorLines, operatorsRead}
-use Rattle.operators.proofs.Reading.{line-numbered}
+use Rattle.blocks.proofs.Reading.{line-numbered}
 use Rattle.part.specs.Body.{Part, Book}
 use Rattle.meaning.specs.Parts.{NamedPart, Played, partOf, partNamed, linePlayed}
 use Rattle.meaning.specs.Sheets.{Read, Kind, skipped, headerLine, directiveLine, macroLine, partLine, kindOf, takenBy, bookOf, headerRead, directiveRead, macroRead, partRead, lineRead, linesRead, nothingRead, ended, sheetRead}

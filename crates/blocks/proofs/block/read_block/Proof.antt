@@ -6,11 +6,11 @@ use native.Mathlib.Omega.{arith}
 use borrow.Author.Needs.{needs}
 use lib.ListN.{length, take, drop}
 use Rattle.text.proofs.LinePlaces.{Lined, line-placed}
 use Rattle.operators.specs.OperatorLines.{ends}
 use Rattle.operators.specs.Answers.{outcomeOf}
-use Rattle.operators.proofs.Reading.{Reading, reading-start, narrow-numbers, narrow-shape, answered-end, answered-other, answered-refused, line-room, reading-more}
-use Rattle.operators.proofs.block.read_block.Statement.{statement}
-use Rattle.operators.proofs.block.read_block.Tie as tie
+use Rattle.blocks.proofs.Reading.{Reading, reading-start, narrow-numbers, narrow-shape, answered-end, answered-other, answered-refused, line-room, reading-more}
+use Rattle.blocks.proofs.block.read_block.Statement.{statement}
+use Rattle.blocks.proofs.block.read_block.Tie as tie
 
 abbrev Inv-loop : tie.InvT-loop
 Inv-loop source at numbers₀ shape₀ place₀ count₀ before₀ numbers shape place count before = Reading source at numbers₀ shape₀ numbers shape place count before

@@ -27,11 +27,11 @@ use Rattle.instrument.specs.Lines.{Line, indentRefusal}
 use Rattle.sheet.specs.Refusals.{Outcome, going, refused, _>>=_, _>>_}
 use Rattle.sheet.proofs.Holds.{Holds, holds-of}
 use Rattle.sheet.proofs.Outcomes.{then-going, then-refused, then-same, Numbered, numbered-going, numbered-refused, numbered-of, numbered-unless, numbered-then}
-use Rattle.operators.specs.declared.block.Block.{Block}
+use Rattle.blocks.specs.declared.block.Block.{Block}
 use Rattle.operators.specs.OperatorLines.{ends, operatorLines, indentOf, indented, readable, numbersRead, present, feedbackRead, operatorRead, operatorsRead}
 use Rattle.operators.specs.Answers.{indentAbove}
-use Rattle.operators.specs.Blocks.{linesIn, blockRead, blockOutcome}
+use Rattle.blocks.specs.Blocks.{linesIn, blockRead, blockOutcome}
 use Rattle.operators.proofs.Indents.{Fits, one-fits}
 
 -- ---- a line's refusal is not 0
 

@@ -11,8 +11,8 @@ use Rattle.text.specs.Lines.{linesOf}
 use Rattle.instrument.specs.Lines.{Line}
 use Rattle.sheet.specs.Capacities.{operatorsMost}
 use Rattle.sheet.specs.Refusals.{Outcome, going, refused}
-use Rattle.operators.specs.declared.block.Block.{Block}
+use Rattle.blocks.specs.declared.block.Block.{Block}
 use Rattle.operators.specs.OperatorLines.{operatorLines, operatorsRead}
 
 -- the first n operator lines of two columns
 unfoldable pub linesIn : ℕ → List Float → List ℕ → List Line

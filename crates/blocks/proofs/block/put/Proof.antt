@@ -2,9 +2,9 @@
 use native.Mathlib.Omega.{arith}
 use borrow.Author.Needs.{needs}
 use lib.ListN.{length-set}
-use Rattle.operators.proofs.Kept.{one-more}
-use Rattle.operators.proofs.block.put.Statement.{statement}
-use Rattle.operators.proofs.block.put.Tie as tie
+use Rattle.blocks.proofs.Kept.{one-more}
+use Rattle.blocks.proofs.block.put.Statement.{statement}
+use Rattle.blocks.proofs.block.put.Tie as tie
 
 mul-at : tie.Need-mul-at
 mul-at c = search needs

@@ -9,7 +9,7 @@ use lib.Seq.{sets, sets-eq, take-at, drop-at, drop-drop, length-take-le, getD-ta
 use lib.Ieee.{Float, nan}
 use Rattle.instrument.specs.declared.operator.Operator.{Operator}
 use Rattle.instrument.specs.Lines.{Line}
-use Rattle.operators.specs.Blocks.{linesIn}
+use Rattle.blocks.specs.Blocks.{linesIn}
 
 -- ---- a run of stores
 

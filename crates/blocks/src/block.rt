@@ -5,11 +5,11 @@ ghost use mathlib.Core.List.{[], _∷_, _++_};
 ghost use Prim.Native.Nat.{ℕ, _+_, _≤_, _<_};
 ghost use lib.ListN.{length, drop};
 ghost use Rattle.text.specs.Lines.{linesOf, behindLines};
 ghost use Rattle.operators.specs.OperatorLines.{ends};
-ghost use Rattle.operators.specs.Blocks.{linesIn, blockRead, blockOutcome};
-use crate::line::OperatorLine;
-use crate::line::operator;
+ghost use Rattle.blocks.specs.Blocks.{linesIn, blockRead, blockOutcome};
 use instrument::operator::Operator;
+use operators::line::OperatorLine;
+use operators::line::operator;
 use text::blanks::blanks_end;
 use text::lines::line_at;
 

@@ -11,9 +11,9 @@ use lib.Seq.{drop-cons}
 use Rattle.text.specs.Blanks.{isBlank}
 use Rattle.text.specs.Fronts.{front, after}
 use Rattle.text.proofs.Fronts.{after-is}
 use Rattle.operators.specs.OperatorLines.{ends, endsAt}
-use Rattle.operators.proofs.block.is_end.Statement.{statement}
-use Rattle.operators.proofs.block.is_end.Tie as tie
+use Rattle.blocks.proofs.block.is_end.Statement.{statement}
+use Rattle.blocks.proofs.block.is_end.Tie as tie
 
 module _ (l : List ℕ) (at : ℕ) (e : at ≡ 0 + length (front isBlank (drop 0 l))) where
   rest : after isBlank l ≡ drop at l

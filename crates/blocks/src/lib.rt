@@ -1,0 +1,3 @@
+// The operator lines below an instrument's header.
+
+pub mod block;
