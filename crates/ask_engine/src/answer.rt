@@ -10,10 +10,10 @@ use evaluator::window::window;
 use fields::float::to_bits;
 use fields::word::put;
 use libc::STDOUT_FILENO;
+use lines::names::least;
 use parser::reader::read;
 use sheet::answer::Answer;
 use sheet::sheet::Sheet;
-use text::names::least;
 
 // An answer as two numbers: the refusal, 0 for none, and the count.
 fn numbers(answer: Answer) -> [u8; 8] {

@@ -4,7 +4,7 @@ ghost use mathlib.Core.Path.{_≡_};
 ghost use Prim.Native.Nat.{_≤_};
 ghost use lib.ListN.{length, take};
 ghost use Rattle.io.specs.Counts.{Counts};
-use text::names::least;
+use lines::names::least;
 
 // What a slice of samples holds before it is lent.
 pub fn floats() -> [f32; 16384]

@@ -6,9 +6,9 @@ use instrument::machine::Command;
 use instrument::machine::Instrument;
 use instrument::machine::Slot;
 use instrument::operator::Operator;
+use lines::names::least;
 use sheet::note::Note;
 use sheet::sheet::Sheet;
-use text::names::least;
 
 // A number as a count: the largest stands for a count that no sum may take further.
 fn count_of(becomes: u32) -> usize {

@@ -3,7 +3,7 @@
 ghost use Prim.Native.Nat.{_≤_};
 ghost use lib.ListN.{length};
 use fields::word::word;
-use text::names::least;
+use lines::names::least;
 
 pub struct Request {
     // How many bytes of text follow.

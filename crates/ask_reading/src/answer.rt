@@ -7,9 +7,9 @@ use crate::instruments;
 use crate::parts;
 use crate::words;
 use libc::STDOUT_FILENO;
+use lines::names::least;
 use meaning::reading::Reading;
 use parser::reader::read;
-use text::names::least;
 
 // Room for any answer: five numbers, 16 counts, 2,048 notes and 32 instruments of 64 commands take 98,644 bytes.
 fn room() -> [u8; 131072]

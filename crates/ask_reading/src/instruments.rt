@@ -4,7 +4,7 @@ use crate::words;
 use instrument::machine::Command;
 use instrument::machine::Instrument;
 use instrument::operator::Operator;
-use text::names::least;
+use lines::names::least;
 
 fn operator(out: &mut [u8], from: usize, op: Operator) -> usize {
     let amplitude = op.amplitude;

@@ -12,7 +12,7 @@ ghost use lib.ListN.{length};
 ghost use Rattle.io.specs.Counts.{Counts};
 use fields::word::word;
 use libc::STDIN_FILENO;
-use text::names::least;
+use lines::names::least;
 
 // Reads the first n bytes, or as many as there are, and says how many.
 fn read_first(bytes: &mut [u8], n: usize) -> usize

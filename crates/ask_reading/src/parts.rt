@@ -1,8 +1,8 @@
 // The parts of a sheet as numbers: for each its count of notes, and its notes.
 
 use crate::words;
+use lines::names::least;
 use sheet::note::Note;
-use text::names::least;
 
 fn note(out: &mut [u8], from: usize, n: Note) -> usize {
     let amplitude = n.amplitude;

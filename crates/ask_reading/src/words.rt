@@ -3,7 +3,7 @@
 
 use fields::float;
 use fields::word::put;
-use text::names::least;
+use lines::names::least;
 
 pub fn word(out: &mut [u8], at: usize, w: u32) -> usize {
     let from = least(at, out.len());

@@ -13,9 +13,9 @@ use lib.ListN.{length, take, drop, drop-of-length-le}
 use lib.Seq.{append-snoc, drop-drop}
 use lib.Ieee.{Float}
 use borrow.Author.Tests.{le-leb, lt-leb}
-use Rattle.text.specs.Lines.{linesOf, lineWidth, behindLines}
-use Rattle.text.specs.Tokens.{tokensOf}
-use Rattle.text.proofs.LinePlaces.{Lined}
+use Rattle.lines.specs.Lines.{linesOf, lineWidth, behindLines}
+use Rattle.lines.specs.Tokens.{tokensOf}
+use Rattle.lines.proofs.LinePlaces.{Lined}
 use Rattle.number.specs.declared.digits.Int.{Int}
 use Rattle.number.specs.declared.digits.Int.the-variants.{Number, Absent}
 use Rattle.number.specs.declared.decimal.Decimal.{Decimal}

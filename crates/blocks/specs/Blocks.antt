@@ -7,7 +7,7 @@ use Prim.Native.Nat.{ℕ, zero, suc, _+_, _*_}
 use lib.Dec.{leb}
 use lib.ListN.{drop, getD}
 use lib.Ieee.{Float, nan}
-use Rattle.text.specs.Lines.{linesOf}
+use Rattle.lines.specs.Lines.{linesOf}
 use Rattle.instrument.specs.Lines.{Line}
 use Rattle.sheet.specs.Capacities.{operatorsMost}
 use Rattle.sheet.specs.Refusals.{Outcome, going, refused}

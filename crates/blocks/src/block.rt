@@ -4,14 +4,14 @@ ghost use mathlib.Core.Path.{_≡_};
 ghost use mathlib.Core.List.{[], _∷_, _++_};
 ghost use Prim.Native.Nat.{ℕ, _+_, _≤_, _<_};
 ghost use lib.ListN.{length, drop};
-ghost use Rattle.text.specs.Lines.{linesOf, behindLines};
+ghost use Rattle.lines.specs.Lines.{linesOf, behindLines};
 ghost use Rattle.operators.specs.OperatorLines.{ends};
 ghost use Rattle.blocks.specs.Blocks.{linesIn, blockRead, blockOutcome};
 use instrument::operator::Operator;
+use lines::lines::line_at;
 use operators::line::OperatorLine;
 use operators::line::operator;
 use text::blanks::blanks_end;
-use text::lines::line_at;
 
 // How many operator lines were read, and the place behind them.
 pub struct Block {

@@ -12,7 +12,7 @@ use instrument::machine::Command;
 use instrument::machine::Instrument;
 use instrument::machine::Slot;
 use instrument::operator::Operator;
-use text::names::least;
+use lines::names::least;
 
 // Commands in the front of their array, so many of them.
 struct Laid {

@@ -6,15 +6,15 @@ use mathlib.Core.Option.{none, some}
 use Prim.Native.Nat.{ℕ, _+_, _-_, _≤_}
 use native.Mathlib.Omega.{arith}
 use lib.ListN.{length, take, drop, length-drop}
-use Rattle.text.specs.declared.names.NameAt.{NameAt}
+use Rattle.lines.specs.declared.names.NameAt.{NameAt}
 use Rattle.text.specs.Blanks.{isBlank, isInk}
 use Rattle.text.specs.Characters.{same, rowNamed}
 use Rattle.text.specs.Fronts.{front}
-use Rattle.text.specs.Names.{between}
+use Rattle.lines.specs.Names.{between}
 use Rattle.text.specs.Quoted.{bytes}
-use Rattle.text.specs.Tokens.{firstToken, namedOf, nameAt, namedBy}
+use Rattle.lines.specs.Tokens.{firstToken, namedOf, nameAt, namedBy}
 use Rattle.text.proofs.Fronts.{after-is, take-front, front-within}
-use Rattle.text.proofs.Named.{named-is, name-within}
+use Rattle.lines.proofs.Named.{named-is, name-within}
 use Rattle.number.specs.declared.digits.Int.{Int}
 use Rattle.number.specs.Digits.{valueMost, intAt}
 use Rattle.sheet.specs.Refusals.{Outcome, going, _>>=_, refuse_on_without_}

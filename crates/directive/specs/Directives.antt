@@ -4,7 +4,7 @@ use mathlib.Core.List.{List, [], _∷_}
 use Prim.Native.Nat.{ℕ}
 use Prim.Native.String.{String}
 use Rattle.text.specs.Characters.{rowNamed}
-use Rattle.text.specs.Tokens.{namedOf, firstToken}
+use Rattle.lines.specs.Tokens.{namedOf, firstToken}
 use Rattle.number.specs.Digits.{valueMost, intAt}
 use Rattle.sheet.specs.Refusals.{Outcome, going, refused, _>>=_, refuse_on_without_}
 use Rattle.environment.specs.declared.environment.Environment.{Environment}

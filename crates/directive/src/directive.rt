@@ -10,11 +10,11 @@ use environment::range::ranged_value;
 use keys::key::Key;
 use keys::key::KeyAt;
 use keys::key::key_at;
+use lines::names::name_at;
 use number::digits::eat_int;
 use text::blanks::blanks_end;
 use text::blanks::ink_end;
 use text::characters::same_text;
-use text::names::name_at;
 
 // What is changed, or the number of a refusal.
 pub enum Directive {

@@ -15,9 +15,9 @@ ghost use Rattle.evaluator.specs.Placing.{placed};
 ghost use Rattle.engine.specs.Files.{headerOf, headerIn, writtenOf, writtenIn};
 use evaluator::mixing::mix;
 use handed::check::check;
+use lines::names::least;
 use sheet::answer::Answer;
 use sheet::sheet::Sheet;
-use text::names::least;
 use wave::file::write_samples;
 
 // Writes the header of a sheet's file into the buffer's first 44 bytes. A sheet that does not pass the check is refused with 28, a buffer that has

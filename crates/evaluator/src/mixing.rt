@@ -8,11 +8,11 @@ ghost use Rattle.evaluator.specs.Placing.{soundsOf, placedNote, placed};
 ghost use Rattle.evaluator.specs.Mixing.{mixOne, mixAll};
 use handed::check::released;
 use instrument::machine::Instrument;
+use lines::names::least;
 use sheet::length::larger;
 use sheet::length::samples;
 use sheet::note::Note;
 use sheet::sheet::Sheet;
-use text::names::least;
 
 // The difference of two places, 0 where the second is the larger.
 fn beyond(a: usize, b: usize) -> usize

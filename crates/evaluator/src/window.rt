@@ -6,9 +6,9 @@ ghost use Rattle.sheet.specs.Answers.{answered};
 ghost use Rattle.evaluator.specs.Windows.{windowOf, windowIn};
 use crate::mixing::mix;
 use handed::check::check;
+use lines::names::least;
 use sheet::answer::Answer;
 use sheet::sheet::Sheet;
-use text::names::least;
 
 // Writes the samples of a sheet from sample `start` on that exist and fit, and answers how many. A sheet that does not pass the check is refused with
 // 28, a start past the sheet's length with 29, and then nothing is written.

@@ -13,11 +13,11 @@ ghost use Rattle.sheet.specs.Parts.{countsOf, total, instrumentsOf, lengthOf};
 ghost use Rattle.handed.specs.Check.{all, commandPasses, instrumentPasses, notePasses, checkedOf};
 use instrument::machine::Command;
 use instrument::machine::Instrument;
+use lines::names::least;
 use sheet::length::larger;
 use sheet::length::samples;
 use sheet::note::Note;
 use sheet::sheet::Sheet;
-use text::names::least;
 use tone::time::Length;
 use tone::time::sec_to_len;
 

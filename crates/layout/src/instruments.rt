@@ -11,7 +11,7 @@ ghost use Rattle.layout.specs.Regions.{region};
 ghost use Rattle.layout.specs.Layout.{linesFrom};
 use commands::layout::instrument_of;
 use instrument::machine::Instrument;
-use text::names::least;
+use lines::names::least;
 
 // 32 times one instrument, by a function of its own so that no other has to write the array out.
 fn empties(empty: Instrument) -> [Instrument; 32]

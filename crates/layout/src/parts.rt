@@ -11,11 +11,11 @@ ghost use Rattle.notes.specs.Columns.{notesIn};
 ghost use Rattle.sheet.specs.Lengths.{endOf};
 ghost use Rattle.layout.specs.Regions.{region};
 ghost use Rattle.layout.specs.Layout.{notesFrom, longestFrom};
+use lines::names::least;
 use notes::length::number_at;
 use notes::length::part_end;
 use sheet::length::larger;
 use sheet::note::Note;
-use text::names::least;
 
 // 2,048 notes that say nothing.
 fn silences() -> [Note; 2048]

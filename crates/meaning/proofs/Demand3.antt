@@ -11,7 +11,7 @@ use lib.ListN.{length, replicate, length-map}
 use lib.Seq.{take-at}
 use lib.Ieee.{Float, binary32, add}
 use Rattle.ieee.specs.Constants.{plusZero}
-use Rattle.text.specs.Tokens.{Named}
+use Rattle.lines.specs.Tokens.{Named}
 use Rattle.instrument.specs.declared.machine.Command.{Command}
 use Rattle.instrument.specs.declared.machine.Slot.{Slot}
 use Rattle.instrument.specs.Evaluation.{operatorAt, listOf, instrumentAt}

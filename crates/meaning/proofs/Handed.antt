@@ -9,8 +9,8 @@ use native.Mathlib.Omega.{arith}
 use lib.ListN.{length, take, getD, length-append}
 use lib.Ieee.{Float, nan}
 use borrow.Author.Tests.{ltb-true, leb-true}
-use Rattle.text.specs.Tokens.{Named}
-use Rattle.text.specs.Lines.{linesOf}
+use Rattle.lines.specs.Tokens.{Named}
+use Rattle.lines.specs.Lines.{linesOf}
 use Rattle.instrument.specs.declared.machine.Instrument.{Instrument}
 use Rattle.instrument.specs.Lines.{Line}
 use Rattle.commands.specs.Commands.{instrumentOf}

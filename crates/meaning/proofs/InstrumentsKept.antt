@@ -15,7 +15,7 @@ use borrow.Author.Tests.{le-leb, leb-true, eqb-true}
 use Rattle.ieee.specs.Constants.{plusZero}
 use Rattle.ieee.specs.Times.{isTime}
 use Rattle.ieee.proofs.Times.{nonnegative-time}
-use Rattle.text.specs.Tokens.{tokensOf}
+use Rattle.lines.specs.Tokens.{tokensOf}
 use Rattle.number.specs.declared.decimal.Decimal.{Decimal}
 use Rattle.number.specs.declared.decimal.Decimal.the-variants.{Value, Unreadable, TooLong}
 use Rattle.number.specs.Decimal.{decimalAt}

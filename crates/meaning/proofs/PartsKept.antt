@@ -9,7 +9,7 @@ use native.Mathlib.Omega.{arith}
 use lib.ListN.{length, length-append}
 use borrow.Author.Tests.{ltb-true}
 use Rattle.text.specs.Characters.{same}
-use Rattle.text.specs.Tokens.{Named}
+use Rattle.lines.specs.Tokens.{Named}
 use Rattle.sheet.specs.Capacities.{partsMost, notesMost}
 use Rattle.sheet.specs.Refusals.{going}
 use Rattle.sheet.specs.declared.note.Note.{Note}

@@ -8,7 +8,7 @@ use lib.ListN.{length}
 use Rattle.sheet.specs.Capacities.{stepsMost}
 use Rattle.sheet.specs.Refusals.{going}
 use Rattle.sheet.proofs.Holds.{Holds, holds-going, holds-then, holds-after}
-use Rattle.text.specs.Tokens.{Named}
+use Rattle.lines.specs.Tokens.{Named}
 use Rattle.environment.specs.declared.environment.Environment.{Environment}
 use Rattle.part.specs.Body.{Book, bodyRead}
 use Rattle.part.proofs.StepCount.{Counted, body-counted}

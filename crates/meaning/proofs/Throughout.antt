@@ -3,8 +3,8 @@ use mathlib.Core.Path.{_≡_, subst}
 use mathlib.Core.List.{List, [], _∷_}
 use mathlib.Core.Option.{Option}
 use Prim.Native.Nat.{ℕ, zero, suc, _+_}
-use Rattle.text.specs.Lines.{linesOf}
-use Rattle.text.specs.Tokens.{Named, namedOf}
+use Rattle.lines.specs.Lines.{linesOf}
+use Rattle.lines.specs.Tokens.{Named, namedOf}
 use Rattle.sheet.specs.Refusals.{going}
 use Rattle.sheet.proofs.Holds.{Holds, holds-going, holds-of, holds-unless, holds-if, holds-then}
 use Rattle.meaning.specs.Sheets.{Read, Kind, skipped, headerLine, directiveLine, macroLine, partLine, headerRead, directiveRead, macroRead, partRead, kindOf, takenBy, lineRead, linesRead, nothingRead, ended, sheetRead}

@@ -7,7 +7,7 @@ use Prim.Native.Nat.{ℕ, _-_}
 use lib.Dec.{ltb}
 use lib.ListN.{length}
 use Rattle.text.specs.Characters.{same}
-use Rattle.text.specs.Tokens.{Named}
+use Rattle.lines.specs.Tokens.{Named}
 use Rattle.sheet.specs.Capacities.{partsMost}
 use Rattle.sheet.specs.Refusals.{Outcome, going, _>>=_, _>>_, refuse_on_unless_}
 use Rattle.sheet.specs.declared.note.Note.{Note}

@@ -9,8 +9,8 @@ use lib.ListN.{length}
 use lib.Ieee.{Float}
 use Rattle.ieee.specs.Constants.{plusZero, one}
 use Rattle.text.specs.Characters.{rowOf}
-use Rattle.text.specs.Lines.{linesOf}
-use Rattle.text.specs.Tokens.{Named, namedOf}
+use Rattle.lines.specs.Lines.{linesOf}
+use Rattle.lines.specs.Tokens.{Named, namedOf}
 use Rattle.instrument.specs.Lines.{Line, releaseOf}
 use Rattle.sheet.specs.Capacities.{sourceMost, sheetMost}
 use Rattle.sheet.specs.Refusals.{Outcome, going, _>>=_, _>>_, refuse_on_unless_, refuse_on_if_}

@@ -8,9 +8,9 @@ ghost use Rattle.ieee.specs.Constants.{plusZero};
 ghost use Rattle.sheet.specs.Capacities.{notesMost};
 ghost use Rattle.sheet.specs.Lengths.{endOf};
 ghost use Rattle.notes.specs.Columns.{notesIn};
+use lines::names::least;
 use sheet::length::larger;
 use sheet::length::samples;
-use text::names::least;
 
 // A number of a column: past its end 0.0.
 pub fn number_at(floats: &[f32], i: usize) -> f32

@@ -11,8 +11,8 @@ use lib.ListN.{length, take, drop, length-append, length-drop}
 use lib.Seq.{length-take-le, drop-drop}
 use lib.Ieee.{Float}
 use borrow.Author.Tests.{eqb-false, eq-eqb, ne-eqb, le-leb, lt-leb, lt-ltb, le-ltb}
-use Rattle.text.specs.Tokens.{tokensOf}
-use Rattle.text.proofs.Tokens.{Token}
+use Rattle.lines.specs.Tokens.{tokensOf}
+use Rattle.lines.proofs.Tokens.{Token}
 use Rattle.number.specs.declared.digits.Int.{Int}
 use Rattle.number.specs.declared.digits.Int.the-variants.{Number, Absent}
 use Rattle.number.specs.declared.decimal.Decimal.{Decimal}

@@ -10,7 +10,7 @@ use lib.Ieee.{Float, nan}
 use Rattle.text.specs.Blanks.{isBlank}
 use Rattle.text.specs.Characters.{is}
 use Rattle.text.specs.Fronts.{front, after}
-use Rattle.text.specs.Tokens.{tokensOf}
+use Rattle.lines.specs.Tokens.{tokensOf}
 use Rattle.number.specs.declared.digits.Int.{Int}
 use Rattle.number.specs.declared.digits.Int.the-variants.{Number, Absent}
 use Rattle.number.specs.declared.decimal.Decimal.{Decimal}

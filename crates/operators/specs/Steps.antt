@@ -6,7 +6,7 @@ use Prim.Native.Nat.{ℕ, _+_}
 use lib.Dec.{ltb}
 use lib.ListN.{length, take, drop}
 use lib.Ieee.{Float}
-use Rattle.text.specs.Tokens.{tokensOf}
+use Rattle.lines.specs.Tokens.{tokensOf}
 use Rattle.instrument.specs.declared.operator.Operator.{Operator}
 use Rattle.instrument.specs.Lines.{Line}
 use Rattle.sheet.specs.Capacities.{operatorsMost}

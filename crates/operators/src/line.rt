@@ -5,7 +5,7 @@
 ghost use mathlib.Core.Path.{_≡_};
 ghost use Prim.Native.Nat.{ℕ, _≤_, _<_};
 ghost use lib.ListN.{length, drop};
-ghost use Rattle.text.specs.Tokens.{tokensOf};
+ghost use Rattle.lines.specs.Tokens.{tokensOf};
 ghost use Rattle.instrument.specs.Lines.{indentRefusal};
 ghost use Rattle.operators.specs.OperatorLines.{indentOf, feedbackRead, operatorRead};
 ghost use Rattle.operators.specs.Answers.{outcomeOf, indentAbove};

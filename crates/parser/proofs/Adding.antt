@@ -9,7 +9,7 @@ use lib.ListN.{length, take, set, length-set}
 use lib.Seq.{getD-set-same, getD-set-other}
 use lib.Ieee.{Float}
 use borrow.Author.Tests.{le-ltb}
-use Rattle.text.specs.Names.{between, namesIn, placeAmong}
+use Rattle.lines.specs.Names.{between, namesIn, placeAmong}
 use Rattle.sheet.specs.Capacities.{partsMost, notesMost, loopsMost}
 use Rattle.environment.specs.declared.environment.Environment.{Environment}
 use Rattle.environment.specs.Environment.{atTheStart}

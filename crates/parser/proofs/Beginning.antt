@@ -8,7 +8,7 @@ use lib.ListN.{length, take, set, getD}
 use lib.Seq.{getD-set-same}
 use lib.Ieee.{Float, round, add, sub, mul, div, lt, ofBits, ofInt}
 use Rattle.text.specs.Quoted.{bytes}
-use Rattle.text.specs.Lines.{linesOf}
+use Rattle.lines.specs.Lines.{linesOf}
 use Rattle.instrument.specs.Lines.{Line, releaseOf}
 use Rattle.sheet.specs.Refusals.{Outcome, going, refused, _>>=_, _>>_, refuse_on_unless_, refuse_on_without_}
 use Rattle.environment.specs.Environment.{atTheStart}
@@ -17,7 +17,7 @@ use Rattle.operators.specs.OperatorLines.{operatorLines, operatorsRead}
 use Rattle.blocks.specs.Blocks.{linesIn, blockOutcome}
 use Rattle.commands.specs.Commands.{clipped, linesHeld}
 use Rattle.tables.specs.Named.{macrosIn}
-use Rattle.text.specs.Names.{namesIn}
+use Rattle.lines.specs.Names.{namesIn}
 use Rattle.layout.specs.Regions.{region}
 use Rattle.layout.specs.Layout.{linesAt, linesFrom, notesFrom}
 use Rattle.layout.proofs.Regions.{region-wide}

@@ -10,7 +10,7 @@ use lib.Dec.{ltb}
 use lib.ListN.{length, drop, getD, drop-of-length-le}
 use lib.Seq.{drop-cons}
 use borrow.Author.Tests.{ltb-true, ltb-false, lt-ltb, le-ltb, lt-leb, le-leb}
-use Rattle.text.specs.Lines.{linesOf}
+use Rattle.lines.specs.Lines.{linesOf}
 use Rattle.sheet.specs.Refusals.{refused, _>>=_, _>>_, refuse_on_unless_}
 use Rattle.meaning.specs.Layout.{laidOut, readingOf}
 use Rattle.meaning.specs.Sheets.{nothingRead, linesRead, ended, allBelow128, sheetRead}

@@ -5,8 +5,8 @@ use Prim.Native.Nat.{ℕ, zero, suc, _+_, _<_}
 use native.Mathlib.Omega.{arith}
 use lib.ListN.{length, drop, getD}
 use lib.Ieee.{Float}
-use Rattle.text.specs.Lines.{lineOf}
-use Rattle.text.specs.Names.{between}
+use Rattle.lines.specs.Lines.{lineOf}
+use Rattle.lines.specs.Names.{between}
 use Rattle.sheet.specs.Refusals.{going}
 use Rattle.sheet.proofs.Outcomes.{Numbered, then-going, then-refused}
 use Rattle.environment.specs.declared.environment.Environment.{Environment}

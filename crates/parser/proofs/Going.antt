@@ -5,9 +5,9 @@ use Prim.Native.Nat.{ℕ, zero, suc, _+_, _≤_}
 use native.Mathlib.Omega.{arith}
 use lib.ListN.{take, drop}
 use lib.Ieee.{Float}
-use Rattle.text.specs.Lines.{linesOf}
+use Rattle.lines.specs.Lines.{linesOf}
 use Rattle.instrument.specs.Lines.{releaseOf}
-use Rattle.text.proofs.LinePlaces.{Lined, line-placed}
+use Rattle.lines.proofs.LinePlaces.{Lined, line-placed}
 use Rattle.sheet.specs.Refusals.{Outcome, going, refused}
 use Rattle.layout.specs.Layout.{linesFrom}
 use Rattle.parser.specs.declared.sofar.Sofar.{Sofar}

@@ -11,7 +11,7 @@ use lib.ListN.{length, take, drop, set, getD, length-set}
 use lib.Seq.{take-suc, take-set-le, getD-set-same, getD-set-other}
 use lib.Ieee.{Float, nan}
 use borrow.Author.Tests.{le-leb, eq-eqb, ltb-true}
-use Rattle.text.specs.Lines.{linesOf, lineOf}
+use Rattle.lines.specs.Lines.{linesOf, lineOf}
 use Rattle.instrument.specs.Lines.{Line, releaseOf}
 use Rattle.sheet.specs.Capacities.{instrumentsMost}
 use Rattle.sheet.specs.Refusals.{Outcome, going, refused}
@@ -24,7 +24,7 @@ use Rattle.commands.specs.Commands.{linesHeld}
 use Rattle.layout.specs.Regions.{region}
 use Rattle.layout.specs.Layout.{linesAt, linesFrom}
 use Rattle.layout.proofs.Regions.{region-wide}
-use Rattle.text.specs.Names.{namesIn}
+use Rattle.lines.specs.Names.{namesIn}
 use Rattle.tables.specs.Tables.{headerOf, headerLine, numberOf, headersAfter}
 use Rattle.tables.proofs.NamesGrown.{names-grown}
 use Rattle.tables.proofs.Taken.{names-many}

@@ -8,9 +8,9 @@ use lib.ListN.{length, take, drop, getD}
 use lib.Seq.{drop-cons}
 use lib.Ieee.{Float}
 use Rattle.text.specs.Characters.{rowOf}
-use Rattle.text.specs.Lines.{linesOf, lineOf}
-use Rattle.text.specs.Tokens.{namedOf}
-use Rattle.text.proofs.LinePlaces.{Lined}
+use Rattle.lines.specs.Lines.{linesOf, lineOf}
+use Rattle.lines.specs.Tokens.{namedOf}
+use Rattle.lines.proofs.LinePlaces.{Lined}
 use Rattle.text.proofs.Rows.{row-none}
 use Rattle.operators.specs.OperatorLines.{operatorLines}
 use Rattle.parser.specs.declared.sofar.Sofar.{Sofar}

@@ -6,7 +6,7 @@ use native.Mathlib.Omega.{arith}
 use lib.ListN.{length, take, drop}
 use lib.Ieee.{Float}
 use borrow.Author.Tests.{le-leb, eq-eqb, ltb-true}
-use Rattle.text.specs.Lines.{lineOf}
+use Rattle.lines.specs.Lines.{lineOf}
 use Rattle.sheet.specs.Capacities.{macrosMost}
 use Rattle.sheet.specs.Refusals.{Outcome, going, refused}
 use Rattle.sheet.proofs.Holds.{Holds, holds-going, holds-of, holds-unless, holds-after}

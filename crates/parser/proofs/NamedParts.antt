@@ -10,8 +10,8 @@ use lib.Dec.{ltb}
 use lib.ListN.{length, getD, set, length-append}
 use borrow.Author.Tests.{eq-eqb, lt-ltb}
 use Rattle.text.specs.Characters.{same}
-use Rattle.text.specs.Names.{placeAmong}
-use Rattle.text.proofs.Places.{among-here, among-past}
+use Rattle.lines.specs.Names.{placeAmong}
+use Rattle.lines.proofs.Places.{among-here, among-past}
 use Rattle.sheet.specs.Capacities.{partsMost}
 use Rattle.sheet.specs.Refusals.{Outcome, going, refused, _>>=_, _>>_, refuse_on_unless_}
 use Rattle.sheet.specs.declared.note.Note.{Note}

@@ -7,7 +7,7 @@ use Prim.Native.Nat.{ℕ, _<_}
 use native.Mathlib.Omega.{arith}
 use Rattle.text.specs.Characters.{same, rowNamed}
 use Rattle.text.specs.Quoted.{bytes}
-use Rattle.text.specs.Tokens.{namedOf, firstToken}
+use Rattle.lines.specs.Tokens.{namedOf, firstToken}
 use Rattle.number.specs.Digits.{valueMost, intAt}
 use Rattle.sheet.specs.Refusals.{Outcome, going, refused, _>>=_, _>>_, refuse_on_unless_, refuse_on_without_}
 use Rattle.sheet.proofs.Outcomes.{Numbered, numbered-going, numbered-refused, numbered-unless, numbered-then}

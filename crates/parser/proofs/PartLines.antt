@@ -11,11 +11,11 @@ use lib.ListN.{length, take, drop, length-drop}
 use lib.Seq.{take-all}
 use lib.Ieee.{Float}
 use borrow.Author.Tests.{ltb-true, ltb-false}
-use Rattle.text.specs.declared.names.NameAt.{NameAt}
-use Rattle.text.specs.Names.{between, namesIn, placeAmong}
-use Rattle.text.specs.Tokens.{Named, namedOf, nameAt, namedBy}
-use Rattle.text.proofs.Places.{between-part}
-use Rattle.text.proofs.Named.{named-is}
+use Rattle.lines.specs.declared.names.NameAt.{NameAt}
+use Rattle.lines.specs.Names.{between, namesIn, placeAmong}
+use Rattle.lines.specs.Tokens.{Named, namedOf, nameAt, namedBy}
+use Rattle.lines.proofs.Places.{between-part}
+use Rattle.lines.proofs.Named.{named-is}
 use Rattle.sheet.specs.Capacities.{partsMost}
 use Rattle.part.specs.Body.{Book}
 use Rattle.tables.specs.Tables.{withEntry}

@@ -10,8 +10,8 @@ use lib.ListN.{length, take, drop, getD, set, length-set}
 use lib.Seq.{getD-set-same, getD-set-other, ext-getD, length-take-le}
 use lib.Ieee.{Float}
 use borrow.Author.Tests.{eqb-true, eqb-false}
-use Rattle.text.specs.Names.{between, namesIn}
-use Rattle.text.proofs.Places.{two}
+use Rattle.lines.specs.Names.{between, namesIn}
+use Rattle.lines.proofs.Places.{two}
 use Rattle.sheet.specs.Capacities.{notesMost}
 use Rattle.sheet.specs.declared.note.Note.{Note}
 use Rattle.notes.proofs.Columns.{notes-length}

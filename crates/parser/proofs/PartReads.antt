@@ -5,9 +5,9 @@ use Prim.Native.Nat.{ℕ, zero, suc, _+_, _*_, _≤_}
 use native.Mathlib.Omega.{arith}
 use lib.ListN.{length, take, drop, length-take}
 use lib.Ieee.{Float}
-use Rattle.text.specs.Lines.{lineOf}
-use Rattle.text.specs.Names.{between, namesIn}
-use Rattle.text.specs.Tokens.{namedOf}
+use Rattle.lines.specs.Lines.{lineOf}
+use Rattle.lines.specs.Names.{between, namesIn}
+use Rattle.lines.specs.Tokens.{namedOf}
 use Rattle.sheet.specs.Refusals.{Outcome, going, refused}
 use Rattle.sheet.proofs.Outcomes.{then-going, then-refused}
 use Rattle.environment.specs.declared.environment.Environment.{Environment}

@@ -10,7 +10,7 @@ use lib.ListN.{length, getD, set, length-set}
 use lib.Seq.{getD-set-same, getD-set-other}
 use lib.Ieee.{Float}
 use borrow.Author.Tests.{eq-eqb, le-leb}
-use Rattle.text.specs.Names.{placeAmong}
+use Rattle.lines.specs.Names.{placeAmong}
 use Rattle.sheet.specs.Capacities.{partsMost, notesMost, loopsMost, instrumentsMost}
 use Rattle.sheet.specs.Refusals.{Outcome, going, refused, _>>=_}
 use Rattle.sheet.proofs.Holds.{Holds, holds-of}

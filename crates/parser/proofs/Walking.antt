@@ -6,9 +6,9 @@ use native.Mathlib.Nat.{add-zero}
 use native.Mathlib.Omega.{arith}
 use lib.ListN.{length, drop, drop-of-length-le}
 use lib.Ieee.{Float}
-use Rattle.text.specs.declared.lines.Line.{Line}
-use Rattle.text.specs.Lines.{linesOf, lineOf, lineAt}
-use Rattle.text.proofs.LinePlaces.{line-placed}
+use Rattle.lines.specs.declared.lines.Line.{Line}
+use Rattle.lines.specs.Lines.{linesOf, lineOf, lineAt}
+use Rattle.lines.proofs.LinePlaces.{line-placed}
 use Rattle.sheet.specs.Refusals.{Outcome, _>>=_}
 use Rattle.sheet.proofs.Outcomes.{then-going, then-refused}
 use Rattle.parser.specs.declared.sofar.Sofar.{Sofar}

@@ -7,8 +7,8 @@ use mathlib.Core.Option.{none}
 use Prim.Native.Nat.{ℕ, zero, suc, _+_, _*_, _≤_, _<_}
 use lib.ListN.{length, take, drop, getD, replicate}
 use lib.Ieee.{Float}
-use Rattle.text.specs.Lines.{linesOf, lineAt}
-use Rattle.text.specs.Names.{between, namesIn}
+use Rattle.lines.specs.Lines.{linesOf, lineAt}
+use Rattle.lines.specs.Names.{between, namesIn}
 use Rattle.instrument.specs.Lines.{releaseOf}
 use Rattle.sheet.specs.Capacities.{sourceMost, partsMost, notesMost, loopsMost, macrosMost, instrumentsMost, operatorsMost}
 use Rattle.sheet.specs.Refusals.{Outcome, going, refused}

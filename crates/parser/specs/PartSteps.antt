@@ -6,7 +6,7 @@ use mathlib.Core.Option.{some}
 use Prim.Native.Nat.{ℕ, zero, suc, _+_, _*_, _-_, _≤_, _<_}
 use lib.ListN.{length, getD, set}
 use lib.Ieee.{Float}
-use Rattle.text.specs.Names.{placeAmong}
+use Rattle.lines.specs.Names.{placeAmong}
 use Rattle.sheet.specs.Capacities.{notesMost, loopsMost}
 use Rattle.sheet.specs.Refusals.{Outcome}
 use Rattle.environment.specs.Environment.{atTheStart}

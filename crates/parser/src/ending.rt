@@ -18,9 +18,9 @@ use layout::instruments::table_of;
 use layout::parts::counts_of;
 use layout::parts::longest;
 use layout::parts::notes_of;
+use lines::names::least;
 use meaning::reading::Reading;
 use sheet::sheet::Sheet;
-use text::names::least;
 
 // The sheet of a refusal: no parts, notes or instruments.
 fn empty_sheet() -> Sheet

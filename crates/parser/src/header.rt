@@ -5,7 +5,7 @@ ghost use mathlib.Core.List.{List, [], _∷_};
 ghost use Prim.Native.Nat.{ℕ, _+_, _*_, _≤_, _<_};
 ghost use lib.ListN.{length, take, drop, set};
 ghost use lib.Ieee.{Float};
-ghost use Rattle.text.specs.Lines.{linesOf, lineOf};
+ghost use Rattle.lines.specs.Lines.{linesOf, lineOf};
 ghost use Rattle.instrument.specs.Lines.{releaseOf};
 ghost use Rattle.operators.specs.OperatorLines.{operatorLines};
 ghost use Rattle.commands.specs.Commands.{linesHeld};

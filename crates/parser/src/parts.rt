@@ -4,17 +4,17 @@ ghost use mathlib.Core.Path.{_≡_};
 ghost use mathlib.Core.List.{List};
 ghost use Prim.Native.Nat.{ℕ, _+_, _*_, _≤_, _<_};
 ghost use lib.ListN.{length, take, getD};
-ghost use Rattle.text.specs.Names.{between, namesIn, placeAmong};
-ghost use Rattle.text.specs.Tokens.{namedOf};
+ghost use Rattle.lines.specs.Names.{between, namesIn, placeAmong};
+ghost use Rattle.lines.specs.Tokens.{namedOf};
 ghost use Rattle.part.specs.Columns.{bookIn};
 ghost use Rattle.meaning.specs.Parts.{linePlayed};
 ghost use Rattle.parser.specs.Columns.{playedIn, Fits, Came};
 ghost use Rattle.parser.specs.PartSteps.{stateOf, storedAs, WithPart, ReadyAt, bodyAt, BodyCame, LineCame};
 use crate::sofar::Sofar;
+use lines::names::name_at;
+use lines::names::place_named;
 use part::part::read_part;
 use part::state::State;
-use text::names::name_at;
-use text::names::place_named;
 
 // The place of a name among those of the first `parts` parts, `parts` where it is new.
 fn place_of(source: &[u8], places: &[usize], parts: usize, name: &[u8]) -> usize

@@ -3,7 +3,7 @@
 ghost use mathlib.Core.Path.{_≡_};
 ghost use Prim.Native.Nat.{_≤_, max};
 ghost use lib.ListN.{length};
-ghost use Rattle.text.specs.Lines.{linesOf};
+ghost use Rattle.lines.specs.Lines.{linesOf};
 ghost use Rattle.sheet.specs.Refusals.{_>>=_ as _then_};
 ghost use Rattle.parser.specs.Columns.{nothingSofar};
 ghost use Rattle.meaning.specs.Layout.{laidOut, readingOf};

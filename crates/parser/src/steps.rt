@@ -5,7 +5,7 @@ ghost use mathlib.Core.List.{List};
 ghost use Prim.Native.Nat.{ℕ, _+_, _≤_, _<_};
 ghost use lib.ListN.{length, drop, getD};
 ghost use lib.Ieee.{Float};
-ghost use Rattle.text.specs.Lines.{lineOf};
+ghost use Rattle.lines.specs.Lines.{lineOf};
 ghost use Rattle.environment.specs.Environment.{atTheStart};
 ghost use Rattle.directive.specs.Directives.{directiveOutcome, applied};
 ghost use Rattle.tables.specs.Tables.{numberOf};

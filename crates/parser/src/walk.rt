@@ -5,8 +5,8 @@ ghost use mathlib.Core.List.{List};
 ghost use Prim.Native.Nat.{ℕ, _+_, _*_, _≤_, _<_};
 ghost use lib.ListN.{length, drop};
 ghost use lib.Ieee.{Float};
-ghost use Rattle.text.specs.Lines.{linesOf, lineOf};
-ghost use Rattle.text.specs.Tokens.{namedOf};
+ghost use Rattle.lines.specs.Lines.{linesOf, lineOf};
+ghost use Rattle.lines.specs.Tokens.{namedOf};
 ghost use Rattle.meaning.specs.Sheets.{partRead, kindOf, takenBy, lineRead, linesRead};
 ghost use Rattle.parser.specs.Columns.{tablesOf, readIn, readOutcome, Fits, Tabled, Begins, Goes};
 use crate::header::header_step;
@@ -15,7 +15,7 @@ use crate::sofar::Sofar;
 use crate::steps::directive_step;
 use crate::steps::macro_step;
 use crate::steps::passed;
-use text::lines::line_at;
+use lines::lines::line_at;
 
 // A part's line, with the tables as far as they are filled.
 fn part_line(

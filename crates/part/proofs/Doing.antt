@@ -7,7 +7,7 @@ use mathlib.Core.Option.{Option}
 use Prim.Native.Nat.{ℕ, _≤_}
 use native.Mathlib.Omega.{arith}
 use lib.Ieee.{Float}
-use Rattle.text.specs.Names.{between}
+use Rattle.lines.specs.Names.{between}
 use Rattle.number.specs.declared.digits.Int.{Int}
 use Rattle.number.specs.declared.decimal.Decimal.{Decimal}
 use Rattle.sheet.proofs.Basics.{false-true}

@@ -6,7 +6,7 @@ use Prim.Native.Nat.{ℕ, zero, suc, _+_, _*_, _≤_}
 use lib.Dec.{ltb}
 use lib.ListN.{length, take, getD}
 use lib.Ieee.{Float}
-use Rattle.text.specs.Names.{namesIn}
+use Rattle.lines.specs.Names.{namesIn}
 use Rattle.sheet.specs.Capacities.{loopsMost, notesMost}
 use Rattle.sheet.specs.Refusals.{Outcome, going, refused, _>>_, refuse_on_unless_}
 use Rattle.sheet.specs.declared.note.Note.{Note}

@@ -6,7 +6,7 @@ ghost use mathlib.Core.Bool.{false};
 ghost use mathlib.Core.List.{List};
 ghost use Prim.Native.Nat.{_≤_, _<_};
 ghost use lib.ListN.{length};
-ghost use Rattle.text.specs.Names.{namesIn};
+ghost use Rattle.lines.specs.Names.{namesIn};
 ghost use Rattle.sheet.specs.Capacities.{instrumentsMost};
 ghost use Rattle.sheet.specs.Refusals.{Outcome};
 ghost use Rattle.tables.specs.Named.{Macro};
@@ -26,9 +26,9 @@ use items::item::Found;
 use items::item::Item;
 use items::item::is_call;
 use items::item::item_at;
+use lines::names::least;
+use lines::names::place_named;
 use text::blanks::blanks_end;
-use text::names::least;
-use text::names::place_named;
 
 // What an item does that is no macro call.
 fn done(

@@ -5,8 +5,8 @@ use mathlib.Core.List.{List, [], _∷_}
 use mathlib.Core.Option.{Option, none, some}
 use Prim.Native.Nat.{ℕ, zero, suc, _+_, _<_}
 use native.Mathlib.Omega.{arith}
-use Rattle.text.specs.Lines.{linesOf}
-use Rattle.text.specs.Tokens.{Named, namedOf}
+use Rattle.lines.specs.Lines.{linesOf}
+use Rattle.lines.specs.Tokens.{Named, namedOf}
 use Rattle.sheet.specs.Refusals.{Outcome, going, refused, _>>_, refuse_on_if_}
 use Rattle.sheet.proofs.Outcomes.{Numbered, numbered-going, numbered-unless, numbered-then}
 use Rattle.environment.specs.declared.environment.Environment.{Environment}

@@ -5,7 +5,7 @@ use Prim.Native.Nat.{ℕ, suc, _+_, _-_, _*_, _<_}
 use native.Mathlib.Omega.{arith}
 use lib.ListN.{length, take, drop, set, length-append}
 use lib.Seq.{length-take-le, sets-eq, take-at}
-use Rattle.text.specs.Names.{between, namesIn}
+use Rattle.lines.specs.Names.{between, namesIn}
 use Rattle.sheet.specs.Refusals.{Outcome, going, refused}
 use Rattle.tables.specs.Named.{Macro, macrosIn}
 use Rattle.tables.specs.Tables.{withEntry, numberOf}

@@ -8,8 +8,8 @@ use native.Mathlib.Omega.{arith}
 use lib.Dec.{leb, ltb, eqb}
 use lib.ListN.{length, take}
 use borrow.Author.Tests.{le-leb, lt-leb, lt-ltb, le-ltb, eq-eqb, ne-eqb}
-use Rattle.text.specs.Names.{between, namesIn, placeAmong}
-use Rattle.text.proofs.Places.{between-cut}
+use Rattle.lines.specs.Names.{between, namesIn, placeAmong}
+use Rattle.lines.proofs.Places.{between-cut}
 use Rattle.sheet.specs.Refusals.{Outcome, going, refused, _>>_, refuse_on_unless_}
 use Rattle.tables.specs.Named.{placeOf}
 use Rattle.tables.specs.Tables.{isNone, headerOf, headerLine, withEntry, numberOf, headersAfter, lineFrom, lineEnd}

@@ -8,11 +8,11 @@ use native.Mathlib.Omega.{arith}
 use lib.Dec.{leb, ltb, eqb}
 use lib.ListN.{length, take, drop, length-take}
 use borrow.Author.Tests.{le-leb, lt-leb, lt-ltb, le-ltb, eq-eqb, ne-eqb}
-use Rattle.text.specs.declared.names.NameAt.{NameAt}
-use Rattle.text.specs.Names.{between, namesIn, placeAmong}
-use Rattle.text.specs.Tokens.{Named, namedOf, nameAt, namedBy}
-use Rattle.text.proofs.Places.{between-cut}
-use Rattle.text.proofs.Named.{named-is, name-within}
+use Rattle.lines.specs.declared.names.NameAt.{NameAt}
+use Rattle.lines.specs.Names.{between, namesIn, placeAmong}
+use Rattle.lines.specs.Tokens.{Named, namedOf, nameAt, namedBy}
+use Rattle.lines.proofs.Places.{between-cut}
+use Rattle.lines.proofs.Named.{named-is, name-within}
 use Rattle.sheet.specs.Refusals.{Outcome, going, refused, _>>=_, _>>_, refuse_on_unless_, refuse_on_without_}
 use Rattle.tables.specs.Named.{Macro, macroNamed, macrosIn}
 use Rattle.tables.specs.Tables.{isNone, macroOf, macroLine, withEntry, numberOf, namesAfter, bodiesAfter, lineFrom, lineEnd}

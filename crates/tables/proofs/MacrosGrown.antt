@@ -8,10 +8,10 @@ use lib.Dec.{leb, ltb, eqb}
 use lib.ListN.{length, take}
 use lib.Seq.{length-take-le}
 use borrow.Author.Tests.{leb-true, leb-false, ltb-true, ltb-false, eqb-true, eqb-false}
-use Rattle.text.specs.declared.names.NameAt.{NameAt}
-use Rattle.text.specs.Names.{between, namesIn, placeAmong}
-use Rattle.text.specs.Tokens.{nameAt}
-use Rattle.text.proofs.Places.{between-part, between-rest}
+use Rattle.lines.specs.declared.names.NameAt.{NameAt}
+use Rattle.lines.specs.Names.{between, namesIn, placeAmong}
+use Rattle.lines.specs.Tokens.{nameAt}
+use Rattle.lines.proofs.Places.{between-part, between-rest}
 use Rattle.sheet.specs.Refusals.{Outcome, going}
 use Rattle.tables.specs.Named.{Macro, macrosIn}
 use Rattle.tables.specs.Tables.{macroLine, numberOf, namesAfter, bodiesAfter, lineFrom, lineEnd}

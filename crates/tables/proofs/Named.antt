@@ -8,8 +8,8 @@ use Prim.Native.Nat.{ℕ, suc, _+_, _*_, _≤_, _<_}
 use native.Mathlib.Omega.{arith}
 use lib.ListN.{length, getD}
 use Rattle.text.specs.Characters.{same}
-use Rattle.text.specs.Names.{between, namesIn, placeAmong}
-use Rattle.text.proofs.Places.{among-here, among-past}
+use Rattle.lines.specs.Names.{between, namesIn, placeAmong}
+use Rattle.lines.proofs.Places.{among-here, among-past}
 use Rattle.tables.specs.Named.{Macro, macroNamed, placeOf, macrosIn}
 
 -- the macro at a place of the two tables

@@ -8,8 +8,8 @@ use lib.Dec.{leb, ltb, eqb}
 use lib.ListN.{length, take}
 use lib.Seq.{length-take-le}
 use borrow.Author.Tests.{leb-true, leb-false, ltb-true, ltb-false, eqb-true, eqb-false}
-use Rattle.text.specs.Names.{between, namesIn, placeAmong}
-use Rattle.text.proofs.Places.{between-cut}
+use Rattle.lines.specs.Names.{between, namesIn, placeAmong}
+use Rattle.lines.proofs.Places.{between-cut}
 use Rattle.sheet.specs.Refusals.{Outcome, going}
 use Rattle.tables.specs.Tables.{headerLine, numberOf, headersAfter, lineFrom, lineEnd}
 use Rattle.tables.proofs.Entries.{entry-last, names-last, same-given, not-refused}

@@ -9,8 +9,8 @@ use lib.Dec.{ltb}
 use lib.ListN.{length, take}
 use lib.Seq.{length-take-le}
 use borrow.Author.Tests.{ltb-true, ltb-false}
-use Rattle.text.specs.Names.{namesIn, placeAmong}
-use Rattle.text.proofs.Places.{names-halved}
+use Rattle.lines.specs.Names.{namesIn, placeAmong}
+use Rattle.lines.proofs.Places.{names-halved}
 use Rattle.tables.specs.Named.{macroNamed, placeOf, macrosIn}
 use Rattle.tables.proofs.Named.{macroAt, macro-known, macro-unknown, place-found, place-none}
 

@@ -4,7 +4,7 @@ use mathlib.Core.List.{List, [], _∷_}
 use mathlib.Core.Option.{Option, none, some}
 use Prim.Native.Nat.{ℕ, _+_}
 use Rattle.text.specs.Characters.{same}
-use Rattle.text.specs.Names.{between}
+use Rattle.lines.specs.Names.{between}
 
 -- a macro: its name, its body, and its own line
 pub record Macro : Type 0 where

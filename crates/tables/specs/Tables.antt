@@ -6,8 +6,8 @@ use mathlib.Core.Option.{Option, none, some}
 use Prim.Native.Nat.{ℕ, _+_, _*_, min}
 use lib.Dec.{leb, ltb, eqb}
 use lib.ListN.{length, take, set}
-use Rattle.text.specs.Names.{between, namesIn}
-use Rattle.text.specs.Tokens.{namedOf, nameAt}
+use Rattle.lines.specs.Names.{between, namesIn}
+use Rattle.lines.specs.Tokens.{namedOf, nameAt}
 use Rattle.sheet.specs.Capacities.{macrosMost, instrumentsMost}
 use Rattle.sheet.specs.Refusals.{Outcome, going, refused, _>>=_, _>>_, refuse_on_unless_, refuse_on_without_}
 use Rattle.tables.specs.Named.{Macro, macroNamed, placeOf, macrosIn}

@@ -5,11 +5,11 @@ ghost use mathlib.Core.Path.{_≡_};
 ghost use Prim.Native.Nat.{ℕ, _+_, _*_, _≤_, _<_};
 ghost use lib.Dec.{ltb};
 ghost use lib.ListN.{length, take};
-ghost use Rattle.text.specs.Names.{namesIn, placeAmong};
+ghost use Rattle.lines.specs.Names.{namesIn, placeAmong};
 ghost use Rattle.tables.specs.Tables.{macroLine, headerLine, numberOf, withEntry, namesAfter, bodiesAfter, headersAfter};
-use text::names::least;
-use text::names::name_at;
-use text::names::place_named;
+use lines::names::least;
+use lines::names::name_at;
+use lines::names::place_named;
 
 // Whether one of a table's first `count` names is this one.
 fn is_taken(source: &[u8], names: &[usize], count: usize, name: &[u8]) -> bool

@@ -1,12 +1,6 @@
-pub mod Examples
 pub mod Fronts
 pub mod Joins
-pub mod LineCuts
-pub mod LinePlaces
-pub mod Named
-pub mod Places
 pub mod Rows
 pub mod Sames
 pub mod Starts
-pub mod Tokens
 pub mod Walks

@@ -3,5 +3,3 @@
 
 pub mod blanks;
 pub mod characters;
-pub mod lines;
-pub mod names;

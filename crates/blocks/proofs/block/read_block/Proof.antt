@@ -5,7 +5,7 @@ use Prim.Native.Nat.{_-_}
 use native.Mathlib.Omega.{arith}
 use borrow.Author.Needs.{needs}
 use lib.ListN.{length, take, drop}
-use Rattle.text.proofs.LinePlaces.{Lined, line-placed}
+use Rattle.lines.proofs.LinePlaces.{Lined, line-placed}
 use Rattle.operators.specs.OperatorLines.{ends}
 use Rattle.operators.specs.Answers.{outcomeOf}
 use Rattle.blocks.proofs.Reading.{Reading, reading-start, narrow-numbers, narrow-shape, answered-end, answered-other, answered-refused, line-room, reading-more}

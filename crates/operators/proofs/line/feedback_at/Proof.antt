@@ -4,7 +4,7 @@ use Prim.Native.Nat.{_+_}
 use lib.ListN.{length, drop}
 use Rattle.text.specs.Blanks.{isInk}
 use Rattle.text.specs.Fronts.{front}
-use Rattle.text.proofs.Tokens.{Token, token-none, token-next}
+use Rattle.lines.proofs.Tokens.{Token, token-none, token-next}
 use Rattle.operators.specs.OperatorLines.{feedbackRead}
 use Rattle.operators.specs.Steps.{feedbackOutcome}
 use Rattle.operators.proofs.Steps.{feedback-read, feedback-over, feedback-absent}

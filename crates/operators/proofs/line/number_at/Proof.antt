@@ -6,7 +6,7 @@ use lib.ListN.{length, drop}
 use Rattle.text.specs.Blanks.{isInk}
 use Rattle.text.specs.Fronts.{front}
 use Rattle.text.proofs.Walks.{walk-inside}
-use Rattle.text.proofs.Tokens.{Token, token-next, token-there}
+use Rattle.lines.proofs.Tokens.{Token, token-next, token-there}
 use Rattle.number.specs.declared.decimal.Decimal.the-variants.{Unreadable, TooLong}
 use Rattle.operators.specs.OperatorLines.{readable}
 use Rattle.operators.proofs.Steps.{number-inside, number-passed, number-stopped}

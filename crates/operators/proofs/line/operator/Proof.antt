@@ -3,7 +3,7 @@ use mathlib.Core.Path.{_≡_, sym, ap, subst, _∙_}
 use Prim.Native.Nat.{ℕ}
 use native.Mathlib.Omega.{arith}
 use lib.ListN.{drop}
-use Rattle.text.specs.Tokens.{tokensOf}
+use Rattle.lines.specs.Tokens.{tokensOf}
 use Rattle.instrument.specs.Lines.{indentRefusal}
 use Rattle.operators.specs.OperatorLines.{indentOf}
 use Rattle.operators.specs.Answers.{outcomeOf, indentAbove}

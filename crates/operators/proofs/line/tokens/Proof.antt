@@ -4,8 +4,8 @@ use Prim.Native.Nat.{_+_, _-_, _≤_}
 use native.Mathlib.Omega.{arith}
 use borrow.Author.Needs.{needs}
 use lib.ListN.{length, drop}
-use Rattle.text.specs.Tokens.{tokensOf}
-use Rattle.text.proofs.Tokens.{Token, token-none, token-next, token-past}
+use Rattle.lines.specs.Tokens.{tokensOf}
+use Rattle.lines.proofs.Tokens.{Token, token-none, token-next, token-past}
 use Rattle.operators.proofs.line.tokens.Statement.{statement}
 use Rattle.operators.proofs.line.tokens.Tie as tie
 

@@ -1,7 +1,7 @@
 -- `read_into` begins with nothing but the default instrument, walks over the lines and ends the reading. Assumes nothing.
 use mathlib.Core.Path.{ap, _∙_}
 use native.Mathlib.Omega.{arith}
-use Rattle.text.specs.Lines.{linesOf}
+use Rattle.lines.specs.Lines.{linesOf}
 use Rattle.sheet.specs.Refusals.{Outcome, _>>=_}
 use Rattle.meaning.specs.Layout.{laidOut}
 use Rattle.meaning.specs.Sheets.{Read, linesRead, ended}

@@ -3,7 +3,7 @@ use mathlib.Core.Path.{sym, _∙_}
 use Prim.Native.Nat.{_-_}
 use native.Mathlib.Omega.{arith}
 use lib.ListN.{length}
-use Rattle.text.specs.Lines.{linesOf}
+use Rattle.lines.specs.Lines.{linesOf}
 use Rattle.meaning.specs.Sheets.{linesRead}
 use Rattle.parser.specs.Columns.{readIn, tablesOf}
 use Rattle.parser.proofs.Walking.{Walking, walking-start, walking-begins, walking-end, walking-refused, walking-more}

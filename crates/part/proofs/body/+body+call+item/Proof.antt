@@ -3,7 +3,7 @@
 use mathlib.Core.Path.{sym, _∙_}
 use mathlib.Core.List.{[]}
 use lib.ListN.{length}
-use Rattle.text.proofs.Places.{between-cut, names-halved}
+use Rattle.lines.proofs.Places.{between-cut, names-halved}
 use Rattle.sheet.specs.Refusals.{going}
 use Rattle.items.proofs.Starts.{item-there}
 use Rattle.part.specs.Body.{inside}
@@ -29,8 +29,8 @@ use Rattle.items.proofs.item.item_at.Reads as item-at-reads
 use Rattle.part.proofs.body.done.Reads as done-reads
 use Rattle.items.proofs.item.is_call.Reads as is-call-reads
 use Rattle.text.proofs.blanks.blanks_end.Reads as blanks-end-reads
-use Rattle.text.proofs.names.least.Reads as least-reads
-use Rattle.text.proofs.names.place_named.Reads as place-named-reads
+use Rattle.lines.proofs.names.least.Reads as least-reads
+use Rattle.lines.proofs.names.place_named.Reads as place-named-reads
 use Rattle.part.proofs.body.+body+call+item.{statement}
 use Rattle.part.proofs.body.+body+call+item.Tie.{close}
 

@@ -1,5 +1,5 @@
 -- `instrument` asks for the name's place, and the names are half as many as their places. Assumes nothing.
-use Rattle.text.proofs.Places.{names-halved}
+use Rattle.lines.proofs.Places.{names-halved}
 use Rattle.part.specs.Columns.{bookOf}
 use Rattle.part.proofs.Changed.{instrument-none, instrument-found}
 use native.Mathlib.Omega.{arith}

@@ -8,11 +8,11 @@ use native.Mathlib.Omega.{arith}
 use lib.Dec.{eqb}
 use lib.ListN.{length, take, drop, length-take, length-drop}
 use lib.Seq.{take-length, take-take, drop-drop}
-use Rattle.text.specs.declared.lines.Line.{Line}
+use Rattle.lines.specs.declared.lines.Line.{Line}
 use Rattle.text.specs.Fronts.{front, after}
-use Rattle.text.specs.Lines.{linesOf, isNotLf, unCr, lineBefore, lineOf, widthBefore, lineWidth, lineAt}
+use Rattle.lines.specs.Lines.{linesOf, isNotLf, unCr, lineBefore, lineOf, widthBefore, lineWidth, lineAt}
 use Rattle.text.proofs.Fronts.{front-within, take-front, after-drop}
-use Rattle.text.proofs.LineCuts.{lines-cons, lines-below}
+use Rattle.lines.proofs.LineCuts.{lines-cons, lines-below}
 
 -- the bytes without their CR are a front of the bytes
 un-cr-front : (l : List ℕ) → take (length (unCr l)) l ≡ unCr l

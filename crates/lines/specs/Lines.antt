@@ -5,8 +5,8 @@ use mathlib.Core.List.{List, [], _∷_}
 use Prim.Native.Nat.{ℕ, zero, suc, _+_}
 use lib.Dec.{eqb}
 use lib.ListN.{length, drop}
-use Rattle.text.specs.declared.lines.Line.{Line}
+use Rattle.lines.specs.declared.lines.Line.{Line}
 use Rattle.text.specs.Fronts.{front, after}
 
 -- a text without the CR right before each LF
 unfoldable pub withoutCr : List ℕ → List ℕ

@@ -5,10 +5,10 @@ use mathlib.Core.Option.{Option, none, some}
 use Prim.Native.Nat.{ℕ, _+_}
 use lib.Dec.{ltb}
 use lib.ListN.{length, drop}
 use Rattle.text.specs.Blanks.{isBlank, isInk}
-use Rattle.text.specs.declared.names.NameAt.{NameAt}
+use Rattle.lines.specs.declared.names.NameAt.{NameAt}
 use Rattle.text.specs.Fronts.{front, after}
-use Rattle.text.specs.Names.{between}
+use Rattle.lines.specs.Names.{between}
 
 -- the tokens of a text that goes on inside a token, or not: one begins at each ink that stands at the start or behind a blank
 unfoldable pub tokensFrom : Bool → List ℕ → List (List ℕ)

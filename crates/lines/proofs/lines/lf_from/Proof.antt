@@ -3,11 +3,11 @@ use Prim.Native.Nat.{_-_}
 use native.Mathlib.Omega.{arith}
 use borrow.Author.Needs.{needs}
 use lib.ListN.{length}
-use Rattle.text.specs.Lines.{isNotLf}
-use Rattle.text.proofs.LineCuts.{lf-fails, other-passes}
+use Rattle.lines.specs.Lines.{isNotLf}
+use Rattle.lines.proofs.LineCuts.{lf-fails, other-passes}
 use Rattle.text.proofs.Walks.{Walk, walk-start, walk-more, walk-stop, walk-end}
-use Rattle.text.proofs.lines.lf_from.Statement.{statement}
-use Rattle.text.proofs.lines.lf_from.Tie as tie
+use Rattle.lines.proofs.lines.lf_from.Statement.{statement}
+use Rattle.lines.proofs.lines.lf_from.Tie as tie
 
 abbrev Inv-loop : tie.InvT-loop
 Inv-loop s i at₀ at = Walk isNotLf s i at

@@ -9,12 +9,12 @@ use lib.Dec.{ltb}
 use lib.ListN.{length, take, drop, getD, length-drop, drop-of-length-le}
 use lib.Seq.{drop-cons}
 use borrow.Author.Tests.{ltb-true, ltb-false}
-use Rattle.text.specs.declared.names.NameAt.{NameAt}
+use Rattle.lines.specs.declared.names.NameAt.{NameAt}
 use Rattle.text.specs.Blanks.{isBlank, isInk}
 use Rattle.text.specs.Fronts.{front, after}
-use Rattle.text.specs.Names.{between}
-use Rattle.text.specs.Tokens.{firstToken, afterToken, namedOf, nameAt, namedBy}
+use Rattle.lines.specs.Names.{between}
+use Rattle.lines.specs.Tokens.{firstToken, afterToken, namedOf, nameAt, namedBy}
 use Rattle.text.proofs.Fronts.{after-drop, after-is, take-front, front-within}
 
 module _ (l : List ℕ) where
   abbrev from : ℕ

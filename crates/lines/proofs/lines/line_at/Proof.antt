@@ -1,8 +1,8 @@
 -- `line_at` looks for the LF and then at the byte before it; each law of `LineCuts` is one answer. Assumes nothing.
 use borrow.Author.Needs.{needs}
-use Rattle.text.proofs.LineCuts.{line-last, line-empty, line-cr, line-plain}
-use Rattle.text.proofs.lines.line_at.Statement.{statement}
-use Rattle.text.proofs.lines.line_at.Tie as tie
+use Rattle.lines.proofs.LineCuts.{line-last, line-empty, line-cr, line-plain}
+use Rattle.lines.proofs.lines.line_at.Statement.{statement}
+use Rattle.lines.proofs.lines.line_at.Tie as tie
 
 lf-from-requires : tie.Need-lf-from-requires
 lf-from-requires c κs = search needs

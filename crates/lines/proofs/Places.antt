@@ -9,8 +9,8 @@ use lib.Dec.{leb}
 use lib.ListN.{length, take, drop, getD, length-drop, drop-of-length-le}
 use lib.Seq.{drop-cons, drop-drop, take-all, take-nil, take-take}
 use borrow.Author.Tests.{leb-true, leb-false}
 use Rattle.text.specs.Characters.{same}
-use Rattle.text.specs.Names.{between, namesIn, placeAmong}
+use Rattle.lines.specs.Names.{between, namesIn, placeAmong}
 
 -- ---- places past the end
 

@@ -1,8 +1,8 @@
 -- `name_at` passes over the blanks, the name and the blanks behind it. Assumes nothing.
 use borrow.Author.Needs.{needs}
-use Rattle.text.proofs.Named.{name-found}
-use Rattle.text.proofs.names.name_at.Statement.{statement}
-use Rattle.text.proofs.names.name_at.Tie as tie
+use Rattle.lines.proofs.Named.{name-found}
+use Rattle.lines.proofs.names.name_at.Statement.{statement}
+use Rattle.lines.proofs.names.name_at.Tie as tie
 
 blanks-end-requires : tie.Need-blanks-end-requires
 blanks-end-requires c κs = search needs

@@ -8,10 +8,10 @@ use native.Mathlib.Omega.{arith}
 use borrow.Author.Tests.{leb-true, leb-false}
 use lib.Dec.{leb}
 use lib.ListN.{length, take, drop, length-drop, drop-of-length-le}
 use Rattle.text.specs.Blanks.{isBlank, isInk}
 use Rattle.text.specs.Fronts.{front, after}
-use Rattle.text.specs.Tokens.{tokensFrom, tokensOf}
+use Rattle.lines.specs.Tokens.{tokensFrom, tokensOf}
 use Rattle.text.proofs.Fronts.{cons-true, Stops, front-within, take-front, after-is, after-stops}
 
 -- ---- one byte
 

@@ -1,13 +1,13 @@
 -- `place_named` keeps a `Looked` search, and cuts each name's places at the text's end. Assumes nothing.
 use mathlib.Core.Path.{sym, ap, _∙_}
 use Rattle.text.specs.Characters.{same}
 use lib.ListN.{length}
 use Prim.Native.Nat.{_-_}
-use Rattle.text.proofs.Places.{Looked, looked-start, looked-more, looked-found, looked-none, between-cut}
+use Rattle.lines.proofs.Places.{Looked, looked-start, looked-more, looked-found, looked-none, between-cut}
 use native.Mathlib.Omega.{arith}
 use borrow.Author.Needs.{needs}
-use Rattle.text.proofs.names.place_named.Statement.{statement}
-use Rattle.text.proofs.names.place_named.Tie as tie
+use Rattle.lines.proofs.names.place_named.Statement.{statement}
+use Rattle.lines.proofs.names.place_named.Tie as tie
 
 abbrev Inv-loop : tie.InvT-loop
 Inv-loop s places name at₀ passed₀ at passed = Looked s places name at passed

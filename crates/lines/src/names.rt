@@ -3,11 +3,11 @@
 ghost use mathlib.Core.Path.{_≡_};
 ghost use Prim.Native.Nat.{_*_, _≤_, min};
 ghost use lib.ListN.{length};
-ghost use Rattle.text.specs.Names.{namesIn, placeAmong};
-ghost use Rattle.text.specs.Tokens.{nameAt};
-use crate::blanks::blanks_end;
-use crate::blanks::ink_end;
-use crate::characters::same_text;
+ghost use Rattle.lines.specs.Names.{namesIn, placeAmong};
+ghost use Rattle.lines.specs.Tokens.{nameAt};
+use text::blanks::blanks_end;
+use text::blanks::ink_end;
+use text::characters::same_text;
 
 // The smaller of two numbers.
 pub fn least(a: usize, b: usize) -> usize

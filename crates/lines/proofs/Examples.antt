@@ -3,9 +3,9 @@
 use mathlib.Core.Path.{_≡_, refl}
 use mathlib.Core.List.{[], _∷_}
 use mathlib.Core.Option.{none, some}
 use Rattle.text.specs.Quoted.{bytes}
-use Rattle.text.specs.Lines.{linesOf}
-use Rattle.text.specs.Tokens.{tokensOf, namedOf}
+use Rattle.lines.specs.Lines.{linesOf}
+use Rattle.lines.specs.Tokens.{tokensOf, namedOf}
 
 -- an LF at the end begins no line; one CR goes, a second one and one at the text's end stay
 pub lines :

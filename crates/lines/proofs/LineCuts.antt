@@ -10,9 +10,9 @@ use lib.Dec.{eqb}
 use lib.ListN.{length, drop, getD, drop-of-length-le, List·getD-append}
 use lib.Seq.{drop-cons, drop-append-seam, drop-append-add, getD-drop}
 use borrow.Author.Tests.{eqb-true, eq-eqb, ne-eqb}
 use Rattle.text.specs.Fronts.{front, after}
-use Rattle.text.specs.Lines.{withoutCr, begun, cutAtLf, linesOf, isNotLf, unCr, lineBefore, lineOf, widthBefore, lineWidth, behindLf, linesBelow, lineAt}
+use Rattle.lines.specs.Lines.{withoutCr, begun, cutAtLf, linesOf, isNotLf, unCr, lineBefore, lineOf, widthBefore, lineWidth, behindLf, linesBelow, lineAt}
 use Rattle.text.proofs.Fronts.{cons-true, cons-false, Stops, after-is, after-stops}
 
 -- no byte of a text is an LF
 pub data NoLf : List ℕ → Type 0 where

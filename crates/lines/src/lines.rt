@@ -3,8 +3,8 @@
 ghost use mathlib.Core.Path.{_≡_};
 ghost use Prim.Native.Nat.{_+_};
 ghost use lib.ListN.{length, drop};
 ghost use Rattle.text.specs.Fronts.{front};
-ghost use Rattle.text.specs.Lines.{isNotLf, lineAt};
+ghost use Rattle.lines.specs.Lines.{isNotLf, lineAt};
 
 // The place after a line's last byte, and the place where the next line begins.
 pub struct Line {

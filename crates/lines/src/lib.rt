@@ -1,0 +1,4 @@
+// Lines, their tokens, and the names in them.
+
+pub mod lines;
+pub mod names;
