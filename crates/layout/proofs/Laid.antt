@@ -10,8 +10,8 @@ use lib.Ieee.{Float}
 use Rattle.ieee.specs.Constants.{plusZero}
 use Rattle.sheet.specs.declared.note.Note.{Note}
 use Rattle.sheet.specs.Padding.{padded, silence}
-use Rattle.notes.specs.Columns.{notesIn}
-use Rattle.notes.proofs.Columns.{notes-length}
+use Rattle.columns.specs.Columns.{notesIn}
+use Rattle.columns.proofs.Columns.{notes-length}
 use Rattle.layout.specs.Layout.{notesAt, notesFrom}
 use Rattle.layout.specs.Regions.{region}
 use Rattle.layout.proofs.Cuts.{region-length, region-get}

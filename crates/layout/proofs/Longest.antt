@@ -6,7 +6,7 @@ use native.Mathlib.Omega.{arith}
 use lib.ListN.{length, take, getD}
 use lib.Ieee.{Float}
 use Rattle.sheet.proofs.Basics.{take-least}
-use Rattle.notes.specs.Columns.{notesIn}
+use Rattle.columns.specs.Columns.{notesIn}
 use Rattle.sheet.specs.Lengths.{endOf}
 use Rattle.layout.specs.Layout.{notesAt, longestFrom}
 use Rattle.layout.specs.Regions.{region}

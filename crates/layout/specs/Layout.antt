@@ -9,7 +9,7 @@ use Rattle.instrument.specs.Lines.{Line}
 use Rattle.sheet.specs.Capacities.{notesMost, operatorsMost}
 use Rattle.layout.specs.Regions.{region}
 use Rattle.sheet.specs.declared.note.Note.{Note}
-use Rattle.notes.specs.Columns.{notesIn}
+use Rattle.columns.specs.Columns.{notesIn}
 use Rattle.sheet.specs.Lengths.{endOf}
 use Rattle.commands.specs.Commands.{linesHeld}
 

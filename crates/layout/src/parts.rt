@@ -7,13 +7,13 @@ ghost use lib.ListN.{length, take, getD};
 ghost use Rattle.ieee.specs.Constants.{plusZero};
 ghost use Rattle.sheet.specs.Capacities.{notesMost, partsMost};
 ghost use Rattle.sheet.specs.Padding.{padded, silence};
-ghost use Rattle.notes.specs.Columns.{notesIn};
+ghost use Rattle.columns.specs.Columns.{notesIn};
 ghost use Rattle.sheet.specs.Lengths.{endOf};
 ghost use Rattle.layout.specs.Regions.{region};
 ghost use Rattle.layout.specs.Layout.{notesFrom, longestFrom};
+use columns::length::number_at;
+use columns::length::part_end;
 use lines::names::least;
-use notes::length::number_at;
-use notes::length::part_end;
 use sheet::length::larger;
 use sheet::note::Note;
 

@@ -1,3 +1,1 @@
-pub mod Columns
-pub mod Ends
 pub mod Letters

@@ -1,4 +1,3 @@
 // Notes as they sound, from the environment of their part (the Rust's `part.rs`).
 
-pub mod length;
 pub mod note;

@@ -14,7 +14,7 @@ use Rattle.lines.specs.Names.{between, namesIn}
 use Rattle.lines.proofs.Places.{two}
 use Rattle.sheet.specs.Capacities.{notesMost}
 use Rattle.sheet.specs.declared.note.Note.{Note}
-use Rattle.notes.proofs.Columns.{notes-length}
+use Rattle.columns.proofs.Columns.{notes-length}
 use Rattle.layout.specs.Regions.{region}
 use Rattle.layout.specs.Layout.{notesAt, notesFrom}
 use Rattle.layout.proofs.Regions.{region-wide}

@@ -20,9 +20,9 @@ use Rattle.loops.proofs.Passes.{played-is, counted-is, played-past, counted-pas
 use Rattle.loops.proofs.Repeats.{laid-length}
 use Rattle.part.specs.declared.state.State.{State}
 use Rattle.part.specs.Body.{Progress, Book, withNotes, opened, cutHere, closed}
-use Rattle.notes.specs.Columns.{notesIn}
+use Rattle.columns.specs.Columns.{notesIn}
 use Rattle.part.specs.Columns.{loopsIn, progressOf, Room, Deep, Becomes}
-use Rattle.notes.proofs.Columns.{notes-front}
+use Rattle.columns.proofs.Columns.{notes-front}
 use Rattle.part.proofs.Columns.{notes-count, loops-count, refused-becomes, going-becomes, refusedAt, withCounts}
 use Rattle.part.proofs.Played.{notes-repeated}
 

@@ -10,7 +10,7 @@ use Rattle.sheet.specs.Refusals.{Outcome, going, refused}
 use Rattle.environment.specs.declared.environment.Environment.{Environment}
 use Rattle.part.specs.declared.state.State.{State}
 use Rattle.part.specs.Body.{Progress}
-use Rattle.notes.proofs.Columns.{notes-length}
+use Rattle.columns.proofs.Columns.{notes-length}
 use Rattle.part.specs.Columns.{loopsIn, progressOf, outcomeOf, Room, Deep, Becomes}
 
 -- ---- loops

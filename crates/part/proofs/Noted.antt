@@ -22,11 +22,11 @@ use Rattle.environment.specs.declared.environment.Environment.{Environment}
 use Rattle.keys.specs.declared.key.Accidental.{Accidental}
 use Rattle.part.specs.declared.state.State.{State}
 use Rattle.part.specs.Body.{Progress, Book, noted, withNotes}
-use Rattle.notes.specs.Columns.{notesIn}
+use Rattle.columns.specs.Columns.{notesIn}
 use Rattle.part.specs.Columns.{loopsIn, progressOf, Room, Deep, Becomes, laid}
 use Rattle.sheet.specs.Lengths.{soundingOf, isCounted}
 use Rattle.notes.specs.Notes.{semitoneOf, amplitudeOf, noteOf}
-use Rattle.notes.proofs.Columns.{notes-append, notes-front}
+use Rattle.columns.proofs.Columns.{notes-append, notes-front}
 use Rattle.part.proofs.Columns.{notes-count, refused-becomes, going-becomes, refusedAt, withCounts}
 
 -- ---- a note at the end of its part

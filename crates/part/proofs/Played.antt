@@ -12,8 +12,8 @@ use Rattle.sheet.specs.declared.note.Note.{Note}
 use Rattle.loops.specs.Loops.{copies}
 use Rattle.loops.specs.Again.{laidAgain}
 use Rattle.loops.proofs.Repeats.{copies-length, laid-passes}
-use Rattle.notes.specs.Columns.{notesIn}
-use Rattle.notes.proofs.Columns.{notes-append, notes-front}
+use Rattle.columns.specs.Columns.{notesIn}
+use Rattle.columns.proofs.Columns.{notes-append, notes-front}
 
 notes-take : (k : ℕ) (fs : List Float) (is : List ℕ) → notesIn fs (take k is) ≡ take k (notesIn fs is)
 unfolding notesIn

@@ -14,7 +14,7 @@ use Rattle.sheet.specs.Refusals.{Outcome, going, refused}
 use Rattle.part.specs.declared.state.State.{State}
 use Rattle.items.specs.Items.{itemsOf}
 use Rattle.part.specs.Body.{Book, Progress, run, inside, bodyRead}
-use Rattle.notes.specs.Columns.{notesIn}
+use Rattle.columns.specs.Columns.{notesIn}
 use Rattle.part.specs.Columns.{loopsIn, progressOf, Ready, Becomes}
 use Rattle.part.specs.Reading.{isReady, partIn, stateAfter, Held}
 use Rattle.part.proofs.Columns.{refusedAt, outcome-going, notes-count, loops-count}

@@ -11,7 +11,7 @@ use Rattle.sheet.specs.Capacities.{loopsMost, notesMost}
 use Rattle.sheet.specs.Refusals.{Outcome, going, refused, _>>_, refuse_on_unless_}
 use Rattle.sheet.specs.declared.note.Note.{Note}
 use Rattle.loops.specs.Loops.{Loop, cutOf}
-use Rattle.notes.specs.Columns.{notesIn}
+use Rattle.columns.specs.Columns.{notesIn}
 use Rattle.tables.specs.Named.{macrosIn, Macro}
 use Rattle.part.specs.declared.state.State.{State}
 use Rattle.part.specs.Body.{Progress, Book, withNotes}

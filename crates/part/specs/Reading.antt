@@ -12,7 +12,7 @@ use Rattle.sheet.specs.Refusals.{Outcome, going, refused}
 use Rattle.environment.specs.Bounds.{octaves}
 use Rattle.part.specs.declared.state.State.{State}
 use Rattle.part.specs.Body.{Book, Progress, bodyRead}
-use Rattle.notes.specs.Columns.{notesIn}
+use Rattle.columns.specs.Columns.{notesIn}
 use Rattle.part.specs.Columns.{loopsIn, progressOf}
 
 -- whether a state is that of a part within the capacities, and the columns have the room for all of it

@@ -7,7 +7,7 @@ ghost use lib.Ieee.{nan};
 ghost use Rattle.ieee.specs.Constants.{plusZero};
 ghost use Rattle.sheet.specs.Capacities.{notesMost};
 ghost use Rattle.sheet.specs.Lengths.{endOf};
-ghost use Rattle.notes.specs.Columns.{notesIn};
+ghost use Rattle.columns.specs.Columns.{notesIn};
 use lines::names::least;
 use sheet::length::larger;
 use sheet::length::samples;

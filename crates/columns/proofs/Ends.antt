@@ -8,7 +8,7 @@ use lib.Seq.{drop-cons, drop-drop, getD-drop}
 use lib.Ieee.{Float, nan, binary32, add}
 use Rattle.ieee.specs.Constants.{plusZero}
 use Rattle.tone.specs.Time.{lengthOf}
-use Rattle.notes.specs.Columns.{notesIn}
+use Rattle.columns.specs.Columns.{notesIn}
 use Rattle.sheet.specs.Lengths.{soundingOf, samplesOf, endOf}
 
 -- i notes are done: the next begins at `start`, `end` is the largest end of those, and with the rest it comes to the end of all

@@ -6,8 +6,8 @@ use native.Mathlib.Omega.{arith}
 use lib.ListN.{length, getD, List·getD-eq-default}
 use lib.Ieee.{Float, ofBits}
 use borrow.Author.Needs.{needs}
-use Rattle.notes.proofs.length.number_at.Statement.{statement}
-use Rattle.notes.proofs.length.number_at.Tie as tie
+use Rattle.columns.proofs.length.number_at.Statement.{statement}
+use Rattle.columns.proofs.length.number_at.Tie as tie
 
 -- within a list it makes no difference what stands past its end
 within : (xs : List Float) (i : ℕ) (x y : Float) → i < length xs → getD xs i x ≡ getD xs i y

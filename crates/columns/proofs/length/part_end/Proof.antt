@@ -7,12 +7,12 @@ use lib.ListN.{length, take, getD}
 use lib.Seq.{length-take-le, getD-take}
 use lib.Ieee.{nan}
 use borrow.Author.Needs.{needs}
-use Rattle.notes.specs.Columns.{notesIn}
+use Rattle.columns.specs.Columns.{notesIn}
 use Rattle.sheet.specs.Lengths.{endOf}
 use Rattle.sheet.proofs.Basics.{take-least}
-use Rattle.notes.proofs.Ends.{Ending, ending-start, ending-more, ending-end}
-use Rattle.notes.proofs.length.part_end.Statement.{statement}
-use Rattle.notes.proofs.length.part_end.Tie as tie
+use Rattle.columns.proofs.Ends.{Ending, ending-start, ending-more, ending-end}
+use Rattle.columns.proofs.length.part_end.Statement.{statement}
+use Rattle.columns.proofs.length.part_end.Tie as tie
 
 abbrev Inv-loop : tie.InvT-loop
 Inv-loop floats instruments count releases rate most i₀ start₀ end₀ i start end =

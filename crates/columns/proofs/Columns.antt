@@ -8,7 +8,7 @@ use lib.Seq.{drop-drop, getD-take, getD-drop}
 use lib.Ieee.{Float}
 use Rattle.ieee.specs.Constants.{plusZero}
 use Rattle.sheet.specs.declared.note.Note.{Note}
-use Rattle.notes.specs.Columns.{notesIn}
+use Rattle.columns.specs.Columns.{notesIn}
 
 pub notes-length : (fs : List Float) (is : List ℕ) → length (notesIn fs is) ≡ length is
 unfolding notesIn

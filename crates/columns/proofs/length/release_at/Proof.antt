@@ -4,8 +4,8 @@ use native.Mathlib.Omega.{arith}
 use lib.ListN.{List·getD-eq-default}
 use lib.Ieee.{ofBits, div}
 use borrow.Author.Needs.{needs}
-use Rattle.notes.proofs.length.release_at.Statement.{statement}
-use Rattle.notes.proofs.length.release_at.Tie as tie
+use Rattle.columns.proofs.length.release_at.Statement.{statement}
+use Rattle.columns.proofs.length.release_at.Tie as tie
 
 mul-result : tie.Need-mul-result
 mul-result c = search needs

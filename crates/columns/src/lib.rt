@@ -1,0 +1,3 @@
+// Notes in columns of plain numbers, and where a part ends.
+
+pub mod length;
