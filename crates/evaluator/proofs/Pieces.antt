@@ -142,3 +142,7 @@ module _ (covered rate : ℕ) (by : Instrument) (n : Note) (start sounds from lo
 -- a note that has a piece in a slice sounds
 pub note-sounds : (start sounds from lo to hi room : ℕ) → lo ≡ start - from → to ≡ start + sounds - from → hi ≡ min to room → lo < hi → 0 < sounds
 note-sounds start sounds from lo to hi room a b c h = omega arith
+
+-- where a note ends in a slice, with its samples counted or by definition
+pub note-reach : (start sounds counted from to room : ℕ) → to ≡ start + sounds - from → sounds ≡ counted → min to room ≡ min (start + counted - from) room
+note-reach start sounds counted from to room a b = omega arith

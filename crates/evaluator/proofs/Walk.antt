@@ -4,6 +4,7 @@ use mathlib.Core.Path.{_≡_, refl, sym, ap, ap₂, subst, _∙_}
 use mathlib.Core.List.{List, [], _∷_, _++_}
 use Prim.Native.Nat.{ℕ, suc, _+_, _-_, _≤_, _<_, min, max}
 use native.Mathlib.Numerals.{add-one}
+use native.Mathlib.Omega.{arith}
 use lib.ListN.{length, take, drop, getD}
 use lib.Seq.{slice, slice-cons, slice-empty}
 use lib.Ieee.{Float}
@@ -85,6 +86,19 @@ module _ (rate : ℕ) (is : List Instrument) (counts : List ℕ) (parts : ℕ) (
   part-ends p n stop at e =
       ap (λ (s : ℕ). atNote p n s at) (sym e)
       ∙ ap (λ (l : List Note). placedFrom rate is at l ++ atPart (p + 1) n) (slice-empty n notes)
+
+  -- a part whose notes are mixed, of an array of `room` counts and one of `most` notes
+  pub part-done : {from covered₀ : ℕ} {all : List Placed} {out₀ : List Float} (room most counted : ℕ) → length counts ≡ room → length notes ≡ most → parts ≡ min counted room
+      → (p n d m at covered covered' : ℕ) (out out' : List Float) → p < parts → n ≤ most → d ≡ min (getD counts p 0) (most - n) → m ≡ n + d
+      → Going from all covered₀ out₀ (atPart p n) covered out
+      → Going from (atNote p n (n + d) 0) covered out (atNote p m (n + d) at) covered' out'
+      → Going from all covered₀ out₀ (atPart (p + 1) m) covered' out'
+  part-done room most counted lc ln lp p n d m at covered covered' out out' h b ed em g i =
+      going-on
+      (going-same
+      (part-begins p n (n + d) h (omega arith) (omega arith) (ap (λ (k : ℕ). n + k) (ed ∙ ap (λ (k : ℕ). min (getD counts p 0) (k - n)) (sym ln))))
+      g)
+      (going-same (part-ends p m (n + d) at em) i)
 
   -- after the last part nothing comes
   pub parts-end : (p n : ℕ) → p ≡ parts → atPart p n ≡ []

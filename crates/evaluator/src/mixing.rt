@@ -1,7 +1,8 @@
 // Mixes the notes of a sheet into a lent slice, one note after the other.
 
 ghost use mathlib.Core.Path.{_≡_};
-ghost use Prim.Native.Nat.{_-_, _*_, _≤_};
+ghost use Prim.Native.Nat.{_+_, _-_, _*_, _≤_, _<_, min};
+ghost use lib.ListN.{length};
 ghost use Rattle.tone.specs.Time.{noteMost};
 ghost use Rattle.sheet.specs.Capacities.{notesMost};
 ghost use Rattle.evaluator.specs.Placing.{soundsOf, placedNote, placed};
@@ -24,7 +25,7 @@ fn beyond(a: usize, b: usize) -> usize
     a - b
 }
 
-// Mixes into a slice, whose first element is sample `from`, a note that starts at sample `start` and sounds so many samples.
+// Mixes into a slice, whose first element is sample `from`, a note that starts at sample `start` and sounds in the elements from a to e.
 fn mix_note(
     out: &mut [f32],
     from: usize,
@@ -32,17 +33,13 @@ fn mix_note(
     note: Note,
     rate: u32,
     start: usize,
-    sounds: usize,
+    a: usize,
+    e: usize,
     covered: usize,
 )
-    requires { ⌜ (start ≤ notesMost * noteMost) × (sounds ≡ soundsOf rate by note) ⌝ }
+    requires { ⌜ (start ≤ notesMost * noteMost) × (a ≡ start - from) × (e ≡ min (start + soundsOf rate by note - from) (length (now out))) × (a < e) ⌝ }
     ensures { λ _. ⌜ now (out .exit) ≡ mixOne covered (placedNote rate by note start) from (now (out .entry)) ⌝ }
 {
-    let a = beyond(start, from);
-    let e = least(beyond(start + sounds, from), out.len());
-    if e <= a {
-        return;
-    }
     let first = (from + a) - start;
     let added = beyond(covered, from + a);
     let amplitude = note.amplitude;
@@ -70,8 +67,7 @@ pub fn mix(sheet: Sheet, out: &mut [f32], rate: u32, from: usize)
     let mut n: usize = 0;
     let mut p: usize = 0;
     while p < parts {
-        let count = sheet.counts[p];
-        let stop = n + least(count, 2048 - n);
+        let stop = n + least(sheet.counts[p], 2048 - n);
         let mut at: usize = 0;
         while n < stop {
             let note = sheet.notes[n];
@@ -85,9 +81,11 @@ pub fn mix(sheet: Sheet, out: &mut [f32], rate: u32, from: usize)
             covered = larger(covered as u64, (at + sounds) as u64) as usize;
             at += takes;
             n += 1;
-            if beyond(start, from) < least(beyond(start + sounds, from), out.len()) {
+            let a = beyond(start, from);
+            let e = least(beyond(start + sounds, from), out.len());
+            if a < e {
                 let by = sheet.table[k];
-                mix_note(out, from, by, note, rate, start, sounds, before);
+                mix_note(out, from, by, note, rate, start, a, e, before);
             }
         }
         p += 1;

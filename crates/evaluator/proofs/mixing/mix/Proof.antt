@@ -2,28 +2,30 @@
 use mathlib.Core.Path.{_≡_, refl, sym, ap, subst, _∙_}
 use Prim.Native.Nat.{ℕ, _+_, _-_, _*_, _≤_, _<_, min}
 use native.Mathlib.Omega.{arith}
-use borrow.Author.Needs.{needs}
+use borrow.Author.Needs.{needs, scaled-fits}
 use lib.ListN.{length, getD, length-map}
 use lib.Ieee.{nan}
+use mir.Syntax.{w64}
+use mir.Val.{Fits}
 use Rattle.instrument.specs.declared.machine.Instrument.{Instrument}
 use Rattle.sheet.specs.Parts.{instrumentsOf}
 use Rattle.sheet.specs.declared.note.Note.{Note}
 use Rattle.evaluator.specs.Placing.{nobody, playerOf, soundsOf, placedNote, placed}
 use Rattle.evaluator.specs.Mixing.{mixOne}
-use Rattle.evaluator.proofs.Pieces.{note-none, note-sounds}
+use Rattle.evaluator.proofs.Pieces.{note-none, note-sounds, note-reach}
 use Rattle.evaluator.proofs.Players.{player-sounds, player-is}
-use Rattle.evaluator.proofs.Walk.{Going, going-start, going-same, going-on, going-end, atPart, atNote, sheet-begins, part-begins, part-ends, parts-end, note-step}
+use Rattle.evaluator.proofs.Walk.{Going, going-start, going-same, going-on, going-end, atPart, atNote, sheet-begins, part-done, parts-end, note-step}
 use Rattle.evaluator.proofs.mixing.mix.Statement.{statement}
 use Rattle.evaluator.proofs.mixing.mix.Tie as tie
 
 abbrev Inv-loop2 : tie.InvT-loop2
-Inv-loop2 out₀ rate from sheet instruments parts covered₀ n₀ p count stop at₀ out covered n at =
+Inv-loop2 out₀ rate from sheet instruments parts covered₀ n₀ p stop at₀ out covered n at =
     (n ≤ stop) × (at ≤ n * 16777216)
     × Going from (atNote rate (instrumentsOf sheet) (sheet .counts) parts (sheet .notes) p n₀ stop at₀) covered₀ out₀
     (atNote rate (instrumentsOf sheet) (sheet .counts) parts (sheet .notes) p n stop at) covered out
 
 abbrev μ-loop2 : tie.MeasureT-loop2
-μ-loop2 out₀ rate from sheet instruments parts covered₀ n₀ p count stop at₀ out covered n at = stop - n
+μ-loop2 out₀ rate from sheet instruments parts covered₀ n₀ p stop at₀ out covered n at = stop - n
 
 abbrev Inv-loop : tie.InvT-loop
 Inv-loop out₀ rate from sheet instruments parts covered₀ n₀ p₀ out covered n p =
@@ -42,12 +44,61 @@ notes-2048 c = sym (length-map (c .args .t1 .notes) _) ∙ c .good .0 .1 .1 .1 .
 table-32 : (c : tie.Start Inv-loop2 μ-loop2 Inv-loop μ-loop) → length (c .args .t1 .table) ≡ 32
 table-32 c = sym (length-map (c .args .t1 .table) _) ∙ c .good .0 .1 .1 .1 .1 .1 .1 .0 .1 .0 .1
 
--- the notes of a part end within the array
-part-within : (c : tie.In-loop2 Inv-loop2 μ-loop2 Inv-loop μ-loop) → c .before .before .before .before .before .loop .n + c .before .before .least3 .result ≤ 2048
-part-within c = omega (arith, c .before .before .least3 .ensures, c .before .before .before .before .before .loop .inv .1)
+-- what a place, a time and a step ask for, over plain numbers
+below : (n most : ℕ) → n < most → most ≤ 4096 → Fits w64 (n + 1)
+below n most h m = omega arith
+
+small-place : (i most size : ℕ) → i < most → most * size ≤ 131072 → Fits w64 (i * size)
+small-place i most size h m = scaled-fits i most size h (omega arith)
+
+under : (k n most : ℕ) → k ≡ min n most → k < most + 1
+under k n most e = omega arith
+
+fewer : (p parts counted : ℕ) → p < parts → parts ≡ min counted 16 → p < 16
+fewer p parts counted h e = omega arith
+
+sum-fits : (n d count : ℕ) → d ≡ min count (2048 - n) → n ≤ 2048 → Fits w64 (n + d)
+sum-fits n d count e h = omega arith
+
+end-fits : (at k : ℕ) → at ≤ 34359738368 → k ≤ 16777216 → Fits w64 (at + k)
+end-fits at k h m = omega arith
+
+at-most : (n at stop : ℕ) → n < stop → stop ≤ 2048 → at ≤ n * 16777216 → at ≤ 34359738368
+at-most n at stop h l m = omega arith
+
+at-next : (n at k : ℕ) → at ≤ n * 16777216 → k ≤ 16777216 → at + k ≤ (n + 1) * 16777216
+at-next n at k h m = omega arith
+
+more : (n stop : ℕ) → n < stop → n + 1 ≤ stop
+more n stop h = omega arith
+
+meets : (n stop : ℕ) → n ≤ stop → stop ≤ n → n ≡ stop
+meets n stop h l = omega arith
+
+ends-within : (m n d count : ℕ) → m ≡ n + d → d ≡ min count (2048 - n) → n ≤ 2048 → m ≤ 2048
+ends-within m n d count e f h = omega arith
+
+in-all : (n stop : ℕ) → n < stop → stop ≤ 2048 → n < 2048
+in-all n stop h l = omega arith
 
 one-less : (n stop : ℕ) → n < stop → stop - (n + 1) < stop - n
 one-less n stop h = omega arith
+
+-- the notes of a part end within the array
+part-within : (c : tie.In-loop2 Inv-loop2 μ-loop2 Inv-loop μ-loop) → c .before .before .before .before .before .loop .n + c .before .before .least3 .result ≤ 2048
+part-within c = ends-within _ (c .before .before .before .before .before .loop .n) (c .before .before .least3 .result) _ refl (c .before .before .least3 .ensures) (c .before .before .before .before .before .loop .inv .1)
+
+parts-within : (c : tie.In-loop Inv-loop2 μ-loop2 Inv-loop μ-loop) → c .before .loop .p < 16
+parts-within c = fewer (c .before .loop .p) _ _ (c .loop-test .taken) (c .before .before .least2 .ensures)
+
+notes-within : (c : tie.In-loop2 Inv-loop2 μ-loop2 Inv-loop μ-loop) → c .before .loop2 .n < 2048
+notes-within c = in-all (c .before .loop2 .n) _ (c .loop2-test .taken) (part-within c)
+
+start-within : (c : tie.In-loop2 Inv-loop2 μ-loop2 Inv-loop μ-loop) → c .before .loop2 .at ≤ 34359738368
+start-within c = at-most (c .before .loop2 .n) (c .before .loop2 .at) _ (c .loop2-test .taken) (part-within c) (c .before .loop2 .inv .1)
+
+table-within : (c : tie.After-least4 Inv-loop2 μ-loop2 Inv-loop μ-loop) → c .least4 .result < 32
+table-within c = under (c .least4 .result) _ 31 (c .least4 .ensures)
 
 -- what a read of the notes has past them
 abbrev noNote : Note
@@ -109,38 +160,38 @@ loop-holds c =
     let s = c .before .before .before in
     (omega arith, omega arith, going-same (sheet-begins (s .args .rate) (c .least2 .result) (s .args .t1) (omega (arith, counts-16 s, c .least2 .ensures))) going-start)
 
-mul-count : tie.Need-mul-count Inv-loop2 μ-loop2 Inv-loop μ-loop
-mul-count c = omega arith
+mul-least : tie.Need-mul-least Inv-loop2 μ-loop2 Inv-loop μ-loop
+mul-least c = small-place (c .before .loop .p) 16 8 (parts-within c) (omega arith)
 
-element-copy-out-count : tie.Need-element-copy-out-count Inv-loop2 μ-loop2 Inv-loop μ-loop
-element-copy-out-count c = omega arith
+element-copy-out-least : tie.Need-element-copy-out-least Inv-loop2 μ-loop2 Inv-loop μ-loop
+element-copy-out-least c = parts-within c
 
 sub-least : tie.Need-sub-least Inv-loop2 μ-loop2 Inv-loop μ-loop
-sub-least c = omega arith
+sub-least c = c .before .before .loop .inv .1
 
 least-requires-3 : tie.Need-least-requires-3 Inv-loop2 μ-loop2 Inv-loop μ-loop
 least-requires-3 c κs = search needs
 
 add-stop : tie.Need-add-stop Inv-loop2 μ-loop2 Inv-loop μ-loop
-add-stop c = omega arith
+add-stop c = sum-fits (c .before .before .before .loop .n) (c .least3 .result) _ (c .least3 .ensures) (c .before .before .before .loop .inv .1)
 
 loop2-holds : tie.Need-loop2-holds Inv-loop2 μ-loop2 Inv-loop μ-loop
 loop2-holds c = (omega arith, omega arith, going-start)
 
 mul-note : tie.Need-mul-note Inv-loop2 μ-loop2 Inv-loop μ-loop
-mul-note c = omega arith
+mul-note c = small-place (c .before .loop2 .n) 2048 24 (notes-within c) (omega arith)
 
 element-copy-out-note : tie.Need-element-copy-out-note Inv-loop2 μ-loop2 Inv-loop μ-loop
-element-copy-out-note c = omega arith
+element-copy-out-note c = notes-within c
 
 least-requires-4 : tie.Need-least-requires-4 Inv-loop2 μ-loop2 Inv-loop μ-loop
 least-requires-4 c κs = search needs
 
 mul-released : tie.Need-mul-released Inv-loop2 μ-loop2 Inv-loop μ-loop
-mul-released c = omega arith
+mul-released c = small-place (c .least4 .result) 32 2064 (table-within c) (omega arith)
 
 element-copy-out-released : tie.Need-element-copy-out-released Inv-loop2 μ-loop2 Inv-loop μ-loop
-element-copy-out-released c = omega arith
+element-copy-out-released c = table-within c
 
 released-requires : tie.Need-released-requires Inv-loop2 μ-loop2 Inv-loop μ-loop
 released-requires c κs = search needs
@@ -152,22 +203,22 @@ samples-requires-2 : tie.Need-samples-requires-2 Inv-loop2 μ-loop2 Inv-loop μ-
 samples-requires-2 c κs = search needs
 
 add-larger : tie.Need-add-larger Inv-loop2 μ-loop2 Inv-loop μ-loop
-add-larger c = omega arith
+add-larger c = end-fits (c .before .before .before .before .before .before .before .before .loop2 .at) (c .samples2 .result) (start-within (c .before .before .before .before .before .before .before)) (c .samples2 .ensures .1)
 
 larger-requires : tie.Need-larger-requires Inv-loop2 μ-loop2 Inv-loop μ-loop
 larger-requires c κs = search needs
 
 add-at : tie.Need-add-at Inv-loop2 μ-loop2 Inv-loop μ-loop
-add-at c = omega arith
+add-at c = end-fits (c .before .before .before .before .before .before .before .before .before .loop2 .at) (c .before .before .samples .result) (start-within (c .before .before .before .before .before .before .before .before)) (c .before .before .samples .ensures .1)
 
 add-n : tie.Need-add-n Inv-loop2 μ-loop2 Inv-loop μ-loop
-add-n c = omega arith
+add-n c = below (c .before .before .before .before .before .before .before .before .before .loop2 .n) 2048 (notes-within (c .before .before .before .before .before .before .before .before)) (omega arith)
 
 beyond-requires : tie.Need-beyond-requires Inv-loop2 μ-loop2 Inv-loop μ-loop
 beyond-requires c κs = search needs
 
 add-beyond : tie.Need-add-beyond Inv-loop2 μ-loop2 Inv-loop μ-loop
-add-beyond c = omega arith
+add-beyond c = end-fits (c .before .before .before .before .before .before .before .before .before .before .loop2 .at) (c .before .before .samples2 .result) (start-within (c .before .before .before .before .before .before .before .before .before)) (c .before .before .samples2 .ensures .1)
 
 beyond-requires-2 : tie.Need-beyond-requires-2 Inv-loop2 μ-loop2 Inv-loop μ-loop
 beyond-requires-2 c κs = search needs
@@ -176,18 +227,22 @@ least-requires-5 : tie.Need-least-requires-5 Inv-loop2 μ-loop2 Inv-loop μ-loop
 least-requires-5 c κs = search needs
 
 mul-by : tie.Need-mul-by Inv-loop2 μ-loop2 Inv-loop μ-loop
-mul-by c = omega arith
+mul-by c = small-place (c .before .before .before .before .before .before .before .before .before .before .least4 .result) 32 2064 (table-within (c .before .before .before .before .before .before .before .before .before .before)) (omega arith)
 
 element-copy-out-by : tie.Need-element-copy-out-by Inv-loop2 μ-loop2 Inv-loop μ-loop
-element-copy-out-by c = omega arith
+element-copy-out-by c = table-within (c .before .before .before .before .before .before .before .before .before .before)
 
 mix-note-requires : tie.Need-mix-note-requires Inv-loop2 μ-loop2 Inv-loop μ-loop
 mix-note-requires c κs =
     let t = c .before .before in
     let q = here t in
     let i = c .before .before .before .before .before .before .before .before .before .before .before .before .before .before in (
-      omega (arith, i .before .loop2 .inv .1, i .loop2-test .taken, part-within i),
-      sounded q ∙ ap (λ (x : Instrument). soundsOf (first q .args .rate) x (note q)) (sym (heard t)),
+      start-within i,
+      t .before .before .before .beyond .ensures,
+      t .before .least5 .ensures
+          ∙ note-reach (i .before .loop2 .at) (q .samples2 .result) (soundsOf (first q .args .rate) (by q) (note q)) (first q .args .from) (t .before .before .beyond2 .result) (length (i .before .loop2 .out)) (t .before .before .beyond2 .ensures)
+          (sounded q ∙ ap (λ (x : Instrument). soundsOf (first q .args .rate) x (note q)) (sym (heard t))),
+      t .if1 .taken,
     )
 
 loop2-less : tie.Need-loop2-less Inv-loop2 μ-loop2 Inv-loop μ-loop
@@ -202,9 +257,9 @@ loop2-again c =
     let o = i .before .before .before .before .before .loop in
     let l = i .before .loop2 in
     let t = c .before .before .before .before .before in (
-      omega (arith, i .loop2-test .taken),
-      omega (arith, q .before .samples .ensures .1, l .inv .1),
-      note-step (s .args .rate) (instrumentsOf a) (a .counts) (i .before .before .before .before .before .before .least2 .result) (a .notes) (o .p) (l .n) _ (l .at) (note q) noNote (l .covered) (l .out) (q .samples2 .result) _ _ _ refl
+      more (l .n) _ (i .loop2-test .taken),
+      at-next (l .n) (l .at) (q .before .samples .result) (l .inv .1) (q .before .samples .ensures .1),
+      note-step (s .args .rate) (instrumentsOf a) (a .counts) (i .before .before .before .before .before .before .least2 .result) (a .notes) {from = s .args .from} {covered₀ = o .covered} {all = atNote (s .args .rate) (instrumentsOf a) (a .counts) (i .before .before .before .before .before .before .least2 .result) (a .notes) (o .p) (o .n) (o .n + i .before .before .least3 .result) 0} {out₀ = o .out} (o .p) (l .n) (o .n + i .before .before .least3 .result) (l .at) (note q) noNote (l .covered) (l .out) (q .samples2 .result) _ _ _ refl
           (i .loop2-test .taken) (subst (λ (m : ℕ). o .n + i .before .before .least3 .result ≤ m) (sym (notes-2048 s)) (part-within i)) (q .before .samples .ensures .0) (sounded q) (t .before .before .before .before .larger .ensures)
           (c .before .before .mix-note .ensures
           ∙ ap (λ (x : Instrument). mixOne (l .covered) (placedNote (s .args .rate) x (note q) (l .at)) (s .args .from) (l .out)) (heard t))
@@ -223,9 +278,9 @@ loop2-again-2 c =
     let o = i .before .before .before .before .before .loop in
     let l = i .before .loop2 in
     let t = c in (
-      omega (arith, i .loop2-test .taken),
-      omega (arith, q .before .samples .ensures .1, l .inv .1),
-      note-step (s .args .rate) (instrumentsOf a) (a .counts) (i .before .before .before .before .before .before .least2 .result) (a .notes) (o .p) (l .n) _ (l .at) (note q) noNote (l .covered) (l .out) (q .samples2 .result) _ _ _ refl
+      more (l .n) _ (i .loop2-test .taken),
+      at-next (l .n) (l .at) (q .before .samples .result) (l .inv .1) (q .before .samples .ensures .1),
+      note-step (s .args .rate) (instrumentsOf a) (a .counts) (i .before .before .before .before .before .before .least2 .result) (a .notes) {from = s .args .from} {covered₀ = o .covered} {all = atNote (s .args .rate) (instrumentsOf a) (a .counts) (i .before .before .before .before .before .before .least2 .result) (a .notes) (o .p) (o .n) (o .n + i .before .before .least3 .result) 0} {out₀ = o .out} (o .p) (l .n) (o .n + i .before .before .least3 .result) (l .at) (note q) noNote (l .covered) (l .out) (q .samples2 .result) _ _ _ refl
           (i .loop2-test .taken) (subst (λ (m : ℕ). o .n + i .before .before .least3 .result ≤ m) (sym (notes-2048 s)) (part-within i)) (q .before .samples .ensures .0) (sounded q) (t .before .before .before .before .larger .ensures)
           (note-none (l .covered) (s .args .rate) (playerOf (instrumentsOf a) (note q)) (note q) (l .at) (q .samples2 .result) (s .args .from) (t .before .before .before .beyond .result) (t .before .least5 .result) (l .out)
           (sounded q) (t .before .before .before .beyond .ensures) (t .before .least5 .ensures ∙ ap (λ (k : ℕ). min k (length (l .out))) (t .before .before .beyond2 .ensures)) (t .if1 .left))
@@ -233,10 +288,10 @@ loop2-again-2 c =
     )
 
 add-p : tie.Need-add-p Inv-loop2 μ-loop2 Inv-loop μ-loop
-add-p c = omega arith
+add-p c = below (c .before .before .before .before .before .loop .p) 16 (parts-within (c .before .before .before .before)) (omega arith)
 
 loop-less : tie.Need-loop-less Inv-loop2 μ-loop2 Inv-loop μ-loop
-loop-less c = omega arith
+loop-less c = one-less (c .before .before .before .before .before .loop .p) (c .before .before .before .before .before .before .least2 .result) (c .before .before .before .before .loop-test .taken)
 
 loop-again : tie.Need-loop-again Inv-loop2 μ-loop2 Inv-loop μ-loop
 loop-again c =
@@ -245,16 +300,12 @@ loop-again c =
     let o = c .before .before .before .before .before .loop in
     let i = c .before .before .before .before in
     let l = c .before .loop2 in
-    let m = c .before .before in
-    let e : l .n ≡ o .n + m .least3 .result = omega (arith, l .inv .0, c .loop2-test .left) in (
-      omega arith,
-      omega (arith, e, m .least3 .ensures, o .inv .1),
-      going-on
-          (going-same
-          (part-begins (s .args .rate) (instrumentsOf a) (a .counts) _ (a .notes) (o .p) (o .n) (o .n + m .least3 .result) (i .loop-test .taken) (omega (arith, counts-16 s, i .before .before .least2 .ensures)) (omega (arith, notes-2048 s, o .inv .1))
-          (ap (λ (k : ℕ). o .n + k) (m .least3 .ensures ∙ ap (λ (k : ℕ). min (getD (a .counts) (o .p) 0) (k - o .n)) (sym (notes-2048 s)))))
-          (o .inv .2))
-          (going-same (part-ends (s .args .rate) (instrumentsOf a) (a .counts) (i .before .before .least2 .result) (a .notes) (o .p) (l .n) _ (l .at) e) (l .inv .2)),
+    let m = c .before .before .least3 in
+    let e : l .n ≡ o .n + m .result = meets (l .n) (o .n + m .result) (l .inv .0) (c .loop2-test .left) in (
+      more (o .p) (i .before .before .least2 .result) (i .loop-test .taken),
+      ends-within (l .n) (o .n) (m .result) _ e (m .ensures) (o .inv .1),
+      part-done (s .args .rate) (instrumentsOf a) (a .counts) (i .before .before .least2 .result) (a .notes) {from = s .args .from} {covered₀ = 0} {all = placed (s .args .rate) a} {out₀ = s .args .out .now} 16 2048 (a .parts) (counts-16 s) (notes-2048 s)
+          (i .before .before .least2 .ensures) (o .p) (o .n) (m .result) (l .n) (l .at) (o .covered) (l .covered) (o .out) (l .out) (i .loop-test .taken) (o .inv .1) (m .ensures) e (o .inv .2) (l .inv .2),
     )
 
 same-length : tie.Need-same-length Inv-loop2 μ-loop2 Inv-loop μ-loop
@@ -265,7 +316,7 @@ returns c =
     let s = c .before .before .before .before .before in
     let a = s .args .t1 in
     let l = c .before .loop in
-    let e : l .p ≡ c .before .before .least2 .result = omega (arith, l .inv .0, c .loop-test .left) in
+    let e : l .p ≡ c .before .before .least2 .result = meets (l .p) (c .before .before .least2 .result) (l .inv .0) (c .loop-test .left) in
     going-end (going-same (parts-end (s .args .rate) (instrumentsOf a) (a .counts) _ (a .notes) (l .p) (l .n) e) (l .inv .2))
 
 pub mix-spec : {M : Type 1} → statement M
@@ -279,8 +330,8 @@ mix-spec =
     least-requires
     least-requires-2
     loop-holds
-    mul-count
-    element-copy-out-count
+    mul-least
+    element-copy-out-least
     sub-least
     least-requires-3
     add-stop
