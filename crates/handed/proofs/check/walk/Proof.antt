@@ -1,14 +1,16 @@
 -- `walk` goes through the notes of each part: those still to come decide whether all pass, and the largest end so far, and the largest of what is
 -- still to come, is the sheet's length. Assumes nothing.
-use mathlib.Core.Path.{_≡_, refl, sym, ap, _∙_}
+use mathlib.Core.Path.{_≡_, refl, sym, ap, subst, _∙_}
 use mathlib.Core.Bool.{Bool}
 use mathlib.Core.List.{List}
 use Prim.Native.Nat.{ℕ, _+_, _-_, _*_, _≤_, _<_, min, max}
 use native.Mathlib.Omega.{arith}
 use lib.ListN.{length, take, getD, length-map}
 use lib.Ieee.{nan}
-use borrow.Author.Needs.{needs}
+use borrow.Author.Needs.{needs, scaled-fits}
 use borrow.Author.Tests.{not-true, not-false}
+use mir.Syntax.{w64}
+use mir.Val.{Fits}
 use Rattle.sheet.specs.declared.note.Note.{Note}
 use Rattle.sheet.specs.declared.sheet.Sheet.{Sheet}
 use Rattle.sheet.specs.Lengths.{longestOf}
@@ -59,13 +61,69 @@ notes-2048 c = sym (length-map (c .args .t1 .notes) _) ∙ c .good .0 .1 .1 .1 .
 table-32 : (c : tie.Start Inv-loop2 μ-loop2 Inv-loop μ-loop) → length (c .args .t1 .table) ≡ 32
 table-32 c = sym (length-map (c .args .t1 .table) _) ∙ c .good .0 .1 .1 .1 .1 .1 .1 .0 .1 .0 .1
 
+-- what a place, a time and a step ask for, over plain numbers
 less : (a b : ℕ) → b < a → a - (b + 1) < a - b
-less a b h = omega (arith, h)
+less a b h = omega arith
+
+more : (a b : ℕ) → b < a → b + 1 ≤ a
+more a b h = omega arith
+
+meets : (a b : ℕ) → b ≤ a → a ≤ b → b ≡ a
+meets a b h l = omega arith
+
+below : (n most : ℕ) → n < most → most ≤ 4096 → Fits w64 (n + 1)
+below n most h m = omega arith
+
+small-place : (i most size : ℕ) → i < most → most * size ≤ 131072 → Fits w64 (i * size)
+small-place i most size h m = scaled-fits i most size h (omega arith)
+
+under : (k n most : ℕ) → k ≡ min n most → k < most + 1
+under k n most e = omega arith
+
+fewer : (p parts counted : ℕ) → p < parts → parts ≡ min counted 16 → p < 16
+fewer p parts counted h e = omega arith
+
+in-all : (n stop : ℕ) → n < stop → stop ≤ 2048 → n < 2048
+in-all n stop h l = omega arith
+
+ends-within : (m n d count : ℕ) → m ≡ n + d → d ≡ min count (2048 - n) → n ≤ 2048 → m ≤ 2048
+ends-within m n d count e f h = omega arith
+
+fewer-parts : (parts counted room : ℕ) → parts ≡ min counted 16 → room ≡ 16 → parts ≤ room
+fewer-parts parts counted room e f = omega arith
+
+sum-fits : (n d count : ℕ) → d ≡ min count (2048 - n) → n ≤ 2048 → Fits w64 (n + d)
+sum-fits n d count e h = omega arith
+
+end-fits : (at k n stop : ℕ) → at ≤ n * 16777216 → n < stop → stop ≤ 2048 → k ≤ 16777216 → Fits w64 (at + k)
+end-fits at k n stop h m l i = omega arith
+
+at-next : (n at k : ℕ) → at ≤ n * 16777216 → k ≤ 16777216 → at + k ≤ (n + 1) * 16777216
+at-next n at k h m = omega arith
+
+from-none : (a l : ℕ) → a ≡ l → max 0 a ≡ l
+from-none a l e = omega arith
+
+-- nothing is longer than the largest end
+largest : (a b l : ℕ) → max a b ≡ l → b ≡ 0 → a ≡ l
+largest a b l e z = omega arith
 
 -- a part's notes end within the sheet's
+stop-2048 : (c : tie.After-least3 Inv-loop2 μ-loop2 Inv-loop μ-loop) → c .before .before .before .loop .n + c .least3 .result ≤ 2048
+stop-2048 c = ends-within _ (c .before .before .before .loop .n) (c .least3 .result) _ refl (c .least3 .ensures) (c .before .before .before .loop .inv .1)
+
 stop-within : (c : tie.After-least3 Inv-loop2 μ-loop2 Inv-loop μ-loop)
     → c .before .before .before .loop .n + c .least3 .result ≤ length (c .before .before .before .before .before .before .args .t1 .notes)
-stop-within c = omega (arith, c .least3 .ensures, c .before .before .before .loop .inv .1, notes-2048 (c .before .before .before .before .before .before))
+stop-within c = subst (λ (k : ℕ). c .before .before .before .loop .n + c .least3 .result ≤ k) (sym (notes-2048 (c .before .before .before .before .before .before))) (stop-2048 c)
+
+parts-within : (c : tie.In-loop Inv-loop2 μ-loop2 Inv-loop μ-loop) → c .before .loop .p < 16
+parts-within c = fewer (c .before .loop .p) _ _ (c .loop-test .taken) (c .before .before .least2 .ensures)
+
+notes-within : (c : tie.In-loop2 Inv-loop2 μ-loop2 Inv-loop μ-loop) → c .before .loop2 .n < 2048
+notes-within c = in-all (c .before .loop2 .n) _ (c .loop2-test .taken) (stop-2048 (c .before .before))
+
+table-within : (c : tie.After-least4 Inv-loop2 μ-loop2 Inv-loop μ-loop) → c .least4 .result < 32
+table-within c = under (c .least4 .result) _ 31 (c .least4 .ensures)
 
 least-requires : tie.Need-least-requires Inv-loop2 μ-loop2 Inv-loop μ-loop
 least-requires c κs = search needs
@@ -80,22 +138,22 @@ loop-holds c =
     let same = take-cut (a .t1 .counts) (a .t1 .parts) 16 (c .least2 .result) (counts-16 (c .before .before)) (c .least2 .ensures) in
     let ends = ap (λ (cs : List ℕ). longestOf (a .rate) (releasesOf (instrumentsOf (a .t1))) (cut cs (a .t1 .notes))) same in
     let tests = ap (λ (cs : List ℕ). all (notePasses (a .rate) (instrumentsOf (a .t1))) (take (total cs) (a .t1 .notes))) same in
-    (omega arith, omega arith, omega (arith, ends), tests)
+    (omega arith, omega arith, from-none _ _ ends, tests)
 
 mul-count : tie.Need-mul-count Inv-loop2 μ-loop2 Inv-loop μ-loop
-mul-count c = omega arith
+mul-count c = small-place (c .before .loop .p) 16 8 (parts-within c) (omega arith)
 
 element-copy-out-count : tie.Need-element-copy-out-count Inv-loop2 μ-loop2 Inv-loop μ-loop
-element-copy-out-count c = omega arith
+element-copy-out-count c = parts-within c
 
 sub-least : tie.Need-sub-least Inv-loop2 μ-loop2 Inv-loop μ-loop
-sub-least c = omega arith
+sub-least c = c .before .before .loop .inv .1
 
 least-requires-3 : tie.Need-least-requires-3 Inv-loop2 μ-loop2 Inv-loop μ-loop
 least-requires-3 c κs = search needs
 
 add-stop : tie.Need-add-stop Inv-loop2 μ-loop2 Inv-loop μ-loop
-add-stop c = omega arith
+add-stop c = sum-fits (c .before .before .before .loop .n) (c .least3 .result) _ (c .least3 .ensures) (c .before .before .before .loop .inv .1)
 
 loop2-holds : tie.Need-loop2-holds Inv-loop2 μ-loop2 Inv-loop μ-loop
 loop2-holds c =
@@ -104,27 +162,27 @@ loop2-holds c =
     let o = c .before .before .before .loop in
     let parts = c .before .before .before .before .least2 in
     let h = c .before .before .loop-test .taken in
-    let k : parts .result ≤ length (a .counts) = omega (arith, parts .ensures, counts-16 s) in
-    let b : o .n ≤ length (a .notes) = omega (arith, notes-2048 s, o .inv .1) in
+    let k : parts .result ≤ length (a .counts) = fewer-parts (parts .result) (a .parts) (length (a .counts)) (parts .ensures) (counts-16 s) in
+    let b : o .n ≤ length (a .notes) = subst (λ (k : ℕ). o .n ≤ k) (sym (notes-2048 s)) (o .inv .1) in
     let cut-at = c .least3 .ensures ∙ ap (λ (k : ℕ). min (getD (a .counts) (o .p) 0) (k - o .n)) (sym (notes-2048 s)) in
     let ends = part-begins (s .args .rate) (releasesOf (instrumentsOf a)) (a .counts) (parts .result) (a .notes) (o .p) (o .n) (c .least3 .result) _ h k b cut-at refl in
     let tests = played-begins (notePasses (s .args .rate) (instrumentsOf a)) (a .counts) (parts .result) (a .notes) (o .p) (o .n) (c .least3 .result) _ h k b cut-at refl in
     (omega arith, omega arith, ap (max (o .end)) (sym ends) ∙ o .inv .2, sym tests ∙ o .inv .3)
 
 mul-note : tie.Need-mul-note Inv-loop2 μ-loop2 Inv-loop μ-loop
-mul-note c = omega arith
+mul-note c = small-place (c .before .loop2 .n) 2048 24 (notes-within c) (omega arith)
 
 element-copy-out-note : tie.Need-element-copy-out-note Inv-loop2 μ-loop2 Inv-loop μ-loop
-element-copy-out-note c = omega arith
+element-copy-out-note c = notes-within c
 
 least-requires-4 : tie.Need-least-requires-4 Inv-loop2 μ-loop2 Inv-loop μ-loop
 least-requires-4 c κs = search needs
 
 mul-released : tie.Need-mul-released Inv-loop2 μ-loop2 Inv-loop μ-loop
-mul-released c = omega arith
+mul-released c = small-place (c .least4 .result) 32 2064 (table-within c) (omega arith)
 
 element-copy-out-released : tie.Need-element-copy-out-released Inv-loop2 μ-loop2 Inv-loop μ-loop
-element-copy-out-released c = omega arith
+element-copy-out-released c = table-within c
 
 released-requires : tie.Need-released-requires Inv-loop2 μ-loop2 Inv-loop μ-loop
 released-requires c κs = search needs
@@ -170,16 +228,16 @@ samples-requires : tie.Need-samples-requires Inv-loop2 μ-loop2 Inv-loop μ-loop
 samples-requires c κs = search needs
 
 add-larger : tie.Need-add-larger Inv-loop2 μ-loop2 Inv-loop μ-loop
-add-larger c = omega arith
+add-larger c = let l = c .before .before .before .before .before .before .before .before .before .loop2 in let t = c .before .before .before .before .before .before .before .before in end-fits (l .start) _ (l .n) _ (l .inv .1) (t .loop2-test .taken) (stop-2048 (t .before .before)) (c .before .before .before .counted .ensures .2)
 
 larger-requires : tie.Need-larger-requires Inv-loop2 μ-loop2 Inv-loop μ-loop
 larger-requires c κs = search needs
 
 add-start : tie.Need-add-start Inv-loop2 μ-loop2 Inv-loop μ-loop
-add-start c = omega arith
+add-start c = let l = c .before .before .before .before .before .before .before .before .before .before .loop2 in let t = c .before .before .before .before .before .before .before .before .before in end-fits (l .start) _ (l .n) _ (l .inv .1) (t .loop2-test .taken) (stop-2048 (t .before .before)) (c .before .samples .ensures .1)
 
 add-n : tie.Need-add-n Inv-loop2 μ-loop2 Inv-loop μ-loop
-add-n c = omega arith
+add-n c = below (c .before .before .before .before .before .before .before .before .before .before .loop2 .n) 2048 (notes-within (c .before .before .before .before .before .before .before .before .before)) (omega arith)
 
 loop2-less : tie.Need-loop2-less Inv-loop2 μ-loop2 Inv-loop μ-loop
 loop2-less c = less _ _ (c .before .before .before .before .before .before .before .before .before .loop2-test .taken)
@@ -197,8 +255,8 @@ loop2-again c =
     let a = s .args .t1 in
     let sounds = d .before .counted .ensures .1 in
     let lasts = c .before .samples .ensures in (
-      omega (arith, h),
-      omega (arith, lasts .1, l .inv .1),
+      more _ (l .n) h,
+      at-next (l .n) (l .start) (c .before .samples .result) (l .inv .1) (lasts .1),
       note-ends (s .args .rate) (releasesOf (instrumentsOf a)) (a .counts) parts (a .notes) p (l .n) _ (l .start) none h (stop-within w) _ (l .end) _ _ _ _
           (its-release (d .before .before)) sounds (lasts .0) (c .larger .ensures) (l .inv .2),
       played-more (notePasses (s .args .rate) (instrumentsOf a)) (a .counts) parts (a .notes) p (l .n) _ none _ _ h (stop-within w) (l .inv .3)
@@ -206,10 +264,10 @@ loop2-again c =
     )
 
 add-p : tie.Need-add-p Inv-loop2 μ-loop2 Inv-loop μ-loop
-add-p c = omega arith
+add-p c = below (c .before .before .before .before .before .loop .p) 16 (parts-within (c .before .before .before .before)) (omega arith)
 
 loop-less : tie.Need-loop-less Inv-loop2 μ-loop2 Inv-loop μ-loop
-loop-less c = omega arith
+loop-less c = less (c .before .before .before .before .before .before .least2 .result) (c .before .before .before .before .before .loop .p) (c .before .before .before .before .loop-test .taken)
 
 loop-again : tie.Need-loop-again Inv-loop2 μ-loop2 Inv-loop μ-loop
 loop-again c =
@@ -220,10 +278,10 @@ loop-again c =
     let s = w .before .before .before .before .before .before in
     let a = s .args .t1 in
     let stop = o .n + w .least3 .result in
-    let e : l .n ≡ stop = omega (arith, l .inv .0, c .loop2-test .left) in
+    let e : l .n ≡ stop = meets stop (l .n) (l .inv .0) (c .loop2-test .left) in
     let ends = part-ends (s .args .rate) (releasesOf (instrumentsOf a)) (a .counts) parts (a .notes) (o .p) (l .n) stop (l .start) e in
     let tests = played-ends (notePasses (s .args .rate) (instrumentsOf a)) (a .counts) parts (a .notes) (o .p) (l .n) stop e in
-    (omega arith, omega (arith, e, stop-within w, notes-2048 s), ap (max (l .end)) (sym ends) ∙ l .inv .2, sym tests ∙ l .inv .3)
+    (more parts (o .p) (w .before .before .loop-test .taken), ends-within (l .n) (o .n) (w .least3 .result) _ e (w .least3 .ensures) (o .inv .1), ap (max (l .end)) (sym ends) ∙ l .inv .2, sym tests ∙ l .inv .3)
 
 returns-2 : tie.Need-returns-2 Inv-loop2 μ-loop2 Inv-loop μ-loop
 returns-2 c =
@@ -231,10 +289,10 @@ returns-2 c =
     let a = s .args .t1 in
     let parts = c .before .before .least2 .result in
     let l = c .before .loop in
-    let e : l .p ≡ parts = omega (arith, l .inv .0, c .loop-test .left) in
+    let e : l .p ≡ parts = meets parts (l .p) (l .inv .0) (c .loop-test .left) in
     let ends = parts-end (s .args .rate) (releasesOf (instrumentsOf a)) (a .counts) parts (a .notes) (l .p) (l .n) e in
     let tests = played-all (notePasses (s .args .rate) (instrumentsOf a)) (a .counts) parts (a .notes) (l .p) (l .n) e in
-    (sym tests ∙ l .inv .3, λ t. omega (arith, l .inv .2, ends))
+    (sym tests ∙ l .inv .3, λ t. largest (l .end) _ _ (l .inv .2) ends)
 
 pub walk-spec : {M : Type 1} → statement M
 walk-spec =
