@@ -2,6 +2,7 @@
 use mathlib.Core.Path.{_≡_, refl, sym, ap, subst, _∙_}
 use Prim.Native.Nat.{ℕ, _+_, _-_, _*_, _≤_, _<_, min}
 use native.Mathlib.Omega.{arith}
+use lib.Dec.{lit≤}
 use borrow.Author.Needs.{needs, scaled-fits}
 use lib.ListN.{length, getD, length-map}
 use lib.Ieee.{nan}
@@ -161,7 +162,7 @@ loop-holds c =
     (omega arith, omega arith, going-same (sheet-begins (s .args .rate) (c .least2 .result) (s .args .t1) (omega (arith, counts-16 s, c .least2 .ensures))) going-start)
 
 mul-least : tie.Need-mul-least Inv-loop2 μ-loop2 Inv-loop μ-loop
-mul-least c = small-place (c .before .loop .p) 16 8 (parts-within c) (omega arith)
+mul-least c = small-place (c .before .loop .p) 16 8 (parts-within c) (lit≤ tt)
 
 element-copy-out-least : tie.Need-element-copy-out-least Inv-loop2 μ-loop2 Inv-loop μ-loop
 element-copy-out-least c = parts-within c
@@ -179,7 +180,7 @@ loop2-holds : tie.Need-loop2-holds Inv-loop2 μ-loop2 Inv-loop μ-loop
 loop2-holds c = (omega arith, omega arith, going-start)
 
 mul-note : tie.Need-mul-note Inv-loop2 μ-loop2 Inv-loop μ-loop
-mul-note c = small-place (c .before .loop2 .n) 2048 24 (notes-within c) (omega arith)
+mul-note c = small-place (c .before .loop2 .n) 2048 24 (notes-within c) (lit≤ tt)
 
 element-copy-out-note : tie.Need-element-copy-out-note Inv-loop2 μ-loop2 Inv-loop μ-loop
 element-copy-out-note c = notes-within c
@@ -188,7 +189,7 @@ least-requires-4 : tie.Need-least-requires-4 Inv-loop2 μ-loop2 Inv-loop μ-loop
 least-requires-4 c κs = search needs
 
 mul-released : tie.Need-mul-released Inv-loop2 μ-loop2 Inv-loop μ-loop
-mul-released c = small-place (c .least4 .result) 32 2064 (table-within c) (omega arith)
+mul-released c = small-place (c .least4 .result) 32 2064 (table-within c) (lit≤ tt)
 
 element-copy-out-released : tie.Need-element-copy-out-released Inv-loop2 μ-loop2 Inv-loop μ-loop
 element-copy-out-released c = table-within c
@@ -212,7 +213,7 @@ add-at : tie.Need-add-at Inv-loop2 μ-loop2 Inv-loop μ-loop
 add-at c = end-fits (c .before .before .before .before .before .before .before .before .before .loop2 .at) (c .before .before .samples .result) (start-within (c .before .before .before .before .before .before .before .before)) (c .before .before .samples .ensures .1)
 
 add-n : tie.Need-add-n Inv-loop2 μ-loop2 Inv-loop μ-loop
-add-n c = below (c .before .before .before .before .before .before .before .before .before .loop2 .n) 2048 (notes-within (c .before .before .before .before .before .before .before .before)) (omega arith)
+add-n c = below (c .before .before .before .before .before .before .before .before .before .loop2 .n) 2048 (notes-within (c .before .before .before .before .before .before .before .before)) (lit≤ tt)
 
 beyond-requires : tie.Need-beyond-requires Inv-loop2 μ-loop2 Inv-loop μ-loop
 beyond-requires c κs = search needs
@@ -227,7 +228,7 @@ least-requires-5 : tie.Need-least-requires-5 Inv-loop2 μ-loop2 Inv-loop μ-loop
 least-requires-5 c κs = search needs
 
 mul-by : tie.Need-mul-by Inv-loop2 μ-loop2 Inv-loop μ-loop
-mul-by c = small-place (c .before .before .before .before .before .before .before .before .before .before .least4 .result) 32 2064 (table-within (c .before .before .before .before .before .before .before .before .before .before)) (omega arith)
+mul-by c = small-place (c .before .before .before .before .before .before .before .before .before .before .least4 .result) 32 2064 (table-within (c .before .before .before .before .before .before .before .before .before .before)) (lit≤ tt)
 
 element-copy-out-by : tie.Need-element-copy-out-by Inv-loop2 μ-loop2 Inv-loop μ-loop
 element-copy-out-by c = table-within (c .before .before .before .before .before .before .before .before .before .before)
@@ -288,7 +289,7 @@ loop2-again-2 c =
     )
 
 add-p : tie.Need-add-p Inv-loop2 μ-loop2 Inv-loop μ-loop
-add-p c = below (c .before .before .before .before .before .loop .p) 16 (parts-within (c .before .before .before .before)) (omega arith)
+add-p c = below (c .before .before .before .before .before .loop .p) 16 (parts-within (c .before .before .before .before)) (lit≤ tt)
 
 loop-less : tie.Need-loop-less Inv-loop2 μ-loop2 Inv-loop μ-loop
 loop-less c = one-less (c .before .before .before .before .before .loop .p) (c .before .before .before .before .before .before .least2 .result) (c .before .before .before .before .loop-test .taken)

@@ -7,6 +7,7 @@ use Prim.Native.Nat.{ℕ, _+_, _-_, _*_, _≤_, _<_, min, max}
 use native.Mathlib.Omega.{arith}
 use lib.ListN.{length, take, getD, length-map}
 use lib.Ieee.{nan}
+use lib.Dec.{lit≤}
 use borrow.Author.Needs.{needs, scaled-fits}
 use borrow.Author.Tests.{not-true, not-false}
 use mir.Syntax.{w64}
@@ -141,7 +142,7 @@ loop-holds c =
     (omega arith, omega arith, from-none _ _ ends, tests)
 
 mul-count : tie.Need-mul-count Inv-loop2 μ-loop2 Inv-loop μ-loop
-mul-count c = small-place (c .before .loop .p) 16 8 (parts-within c) (omega arith)
+mul-count c = small-place (c .before .loop .p) 16 8 (parts-within c) (lit≤ tt)
 
 element-copy-out-count : tie.Need-element-copy-out-count Inv-loop2 μ-loop2 Inv-loop μ-loop
 element-copy-out-count c = parts-within c
@@ -170,7 +171,7 @@ loop2-holds c =
     (omega arith, omega arith, ap (max (o .end)) (sym ends) ∙ o .inv .2, sym tests ∙ o .inv .3)
 
 mul-note : tie.Need-mul-note Inv-loop2 μ-loop2 Inv-loop μ-loop
-mul-note c = small-place (c .before .loop2 .n) 2048 24 (notes-within c) (omega arith)
+mul-note c = small-place (c .before .loop2 .n) 2048 24 (notes-within c) (lit≤ tt)
 
 element-copy-out-note : tie.Need-element-copy-out-note Inv-loop2 μ-loop2 Inv-loop μ-loop
 element-copy-out-note c = notes-within c
@@ -179,7 +180,7 @@ least-requires-4 : tie.Need-least-requires-4 Inv-loop2 μ-loop2 Inv-loop μ-loop
 least-requires-4 c κs = search needs
 
 mul-released : tie.Need-mul-released Inv-loop2 μ-loop2 Inv-loop μ-loop
-mul-released c = small-place (c .least4 .result) 32 2064 (table-within c) (omega arith)
+mul-released c = small-place (c .least4 .result) 32 2064 (table-within c) (lit≤ tt)
 
 element-copy-out-released : tie.Need-element-copy-out-released Inv-loop2 μ-loop2 Inv-loop μ-loop
 element-copy-out-released c = table-within c
@@ -237,7 +238,7 @@ add-start : tie.Need-add-start Inv-loop2 μ-loop2 Inv-loop μ-loop
 add-start c = let l = c .before .before .before .before .before .before .before .before .before .before .loop2 in let t = c .before .before .before .before .before .before .before .before .before in end-fits (l .start) _ (l .n) _ (l .inv .1) (t .loop2-test .taken) (stop-2048 (t .before .before)) (c .before .samples .ensures .1)
 
 add-n : tie.Need-add-n Inv-loop2 μ-loop2 Inv-loop μ-loop
-add-n c = below (c .before .before .before .before .before .before .before .before .before .before .loop2 .n) 2048 (notes-within (c .before .before .before .before .before .before .before .before .before)) (omega arith)
+add-n c = below (c .before .before .before .before .before .before .before .before .before .before .loop2 .n) 2048 (notes-within (c .before .before .before .before .before .before .before .before .before)) (lit≤ tt)
 
 loop2-less : tie.Need-loop2-less Inv-loop2 μ-loop2 Inv-loop μ-loop
 loop2-less c = less _ _ (c .before .before .before .before .before .before .before .before .before .loop2-test .taken)
@@ -264,7 +265,7 @@ loop2-again c =
     )
 
 add-p : tie.Need-add-p Inv-loop2 μ-loop2 Inv-loop μ-loop
-add-p c = below (c .before .before .before .before .before .loop .p) 16 (parts-within (c .before .before .before .before)) (omega arith)
+add-p c = below (c .before .before .before .before .before .loop .p) 16 (parts-within (c .before .before .before .before)) (lit≤ tt)
 
 loop-less : tie.Need-loop-less Inv-loop2 μ-loop2 Inv-loop μ-loop
 loop-less c = less (c .before .before .before .before .before .before .least2 .result) (c .before .before .before .before .before .loop .p) (c .before .before .before .before .loop-test .taken)

@@ -4,6 +4,7 @@ use mathlib.Core.List.{List}
 use Prim.Native.Nat.{ℕ, _+_, _*_, _≤_, _<_}
 use native.Mathlib.Omega.{arith}
 use lib.Ieee.{Float}
+use lib.Dec.{lit≤}
 use borrow.Author.Needs.{needs}
 use Rattle.commands.specs.Commands.{instrumentOf, linesHeld}
 use Rattle.layout.proofs.Cuts.{region-cut, begins-fit, cut-fits, cut-order, cut-within}
@@ -54,7 +55,7 @@ least-requires-4 : tie.Need-least-requires-4
 least-requires-4 c κs = search needs
 
 mul-instrument-of : tie.Need-mul-instrument-of
-mul-instrument-of c = cut-fits (c .before .before .before .least .result) _ _ 4 (c .before .before .before .least .ensures) (numbers-from (c .before .before .before .before .before .before .args .k) (c .before .before .before .before .before .before .pre)) (omega arith)
+mul-instrument-of c = cut-fits (c .before .before .before .least .result) _ _ 4 (c .before .before .before .least .ensures) (numbers-from (c .before .before .before .before .before .before .args .k) (c .before .before .before .before .before .before .pre)) (lit≤ tt)
 
 sub-instrument-of : tie.Need-sub-instrument-of
 sub-instrument-of c = cut-order (c .before .before .before .least .result) (c .before .before .least2 .result) _ _ 192 (c .before .before .before .least .ensures) (c .before .before .least2 .ensures)
@@ -66,7 +67,7 @@ part-instrument-of-end : tie.Need-part-instrument-of-end
 part-instrument-of-end c = cut-within (c .before .before .least2 .result) _ _ (c .before .before .least2 .ensures)
 
 mul-instrument-of-2 : tie.Need-mul-instrument-of-2
-mul-instrument-of-2 c = cut-fits (c .before .before .least3 .result) _ _ 8 (c .before .before .least3 .ensures) (shapes-from (c .before .before .before .before .before .before .before .args .k) (c .before .before .before .before .before .before .before .pre)) (omega arith)
+mul-instrument-of-2 c = cut-fits (c .before .before .least3 .result) _ _ 8 (c .before .before .least3 .ensures) (shapes-from (c .before .before .before .before .before .before .before .args .k) (c .before .before .before .before .before .before .before .pre)) (lit≤ tt)
 
 sub-instrument-of-2 : tie.Need-sub-instrument-of-2
 sub-instrument-of-2 c = cut-order (c .before .before .least3 .result) (c .before .least4 .result) _ _ 64 (c .before .before .least3 .ensures) (c .before .least4 .ensures)

@@ -2,6 +2,7 @@
 use mathlib.Core.Path.{_∙_}
 use Prim.Native.Nat.{ℕ, _+_, _*_, _≤_, _<_}
 use native.Mathlib.Omega.{arith}
+use lib.Dec.{lit≤}
 use borrow.Author.Needs.{needs}
 use Rattle.layout.proofs.Cuts.{region-cut, begins-fit, cut-fits, cut-order, cut-within}
 use Rattle.layout.proofs.Longest.{lent-end}
@@ -52,7 +53,7 @@ least-requires-4 : tie.Need-least-requires-4
 least-requires-4 c κs = search needs
 
 mul-part-end : tie.Need-mul-part-end
-mul-part-end c = cut-fits (c .before .before .before .least .result) _ _ 4 (c .before .before .before .least .ensures) (floats-from (c .before .before .before .before .before .before .before .args .k) (c .before .before .before .before .before .before .before .pre)) (omega arith)
+mul-part-end c = cut-fits (c .before .before .before .least .result) _ _ 4 (c .before .before .before .least .ensures) (floats-from (c .before .before .before .before .before .before .before .args .k) (c .before .before .before .before .before .before .before .pre)) (lit≤ tt)
 
 sub-part-end : tie.Need-sub-part-end
 sub-part-end c = cut-order (c .before .before .before .least .result) (c .before .before .least2 .result) _ _ 6144 (c .before .before .before .least .ensures) (c .before .before .least2 .ensures)

@@ -2,6 +2,7 @@
 use mathlib.Core.Path.{_≡_, ap, _∙_}
 use Prim.Native.Nat.{ℕ, _+_, _-_, _*_, _≤_, _<_, min}
 use native.Mathlib.Omega.{arith}
+use lib.Dec.{lit≤}
 use borrow.Author.Needs.{needs, scaled-fits}
 use mir.Syntax.{w64}
 use mir.Val.{Fits}
@@ -45,7 +46,7 @@ loop-holds : tie.Need-loop-holds Inv-loop μ-loop
 loop-holds c = laying-start _ _ _ _ _ (c .silences .ensures)
 
 mul-held : tie.Need-mul-held Inv-loop μ-loop
-mul-held c = place-fits (c .before .loop .k) 16 8 (part-within c) (omega arith)
+mul-held c = place-fits (c .before .loop .k) 16 8 (part-within c) (lit≤ tt)
 
 array-read-held : tie.Need-array-read-held Inv-loop μ-loop
 array-read-held c = part-within c
@@ -62,7 +63,7 @@ note-at-requires : tie.Need-note-at-requires Inv-loop μ-loop
 note-at-requires c κs = let b = c .before .before .before .before in let l = b .loop in let h = held-below (l .i) _ _ _ (l .k) (c .before .before .held .ensures) (c .before .if1 .taken) in (part-within (c .before .before .before), h)
 
 mul-notes : tie.Need-mul-notes Inv-loop μ-loop
-mul-notes c = place-fits (c .before .before .before .before .before .loop .n) 2048 24 (c .before .if2 .left) (omega arith)
+mul-notes c = place-fits (c .before .before .before .before .before .loop .n) 2048 24 (c .before .if2 .left) (lit≤ tt)
 
 array-set-from-notes : tie.Need-array-set-from-notes Inv-loop μ-loop
 array-set-from-notes c = c .before .if2 .left
