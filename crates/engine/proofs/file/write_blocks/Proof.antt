@@ -1,10 +1,12 @@
 -- `write_blocks` keeps: so many samples are written. A block of samples that all exist continues them (`Blocks`). Assumes nothing.
 use mathlib.Core.Path.{_≡_, refl, sym, ap, subst, _∙_}
 use mathlib.Core.List.{_++_}
-use Prim.Native.Nat.{ℕ, _+_, _-_, _^_, _≤_, _<_}
+use Prim.Native.Nat.{ℕ, _+_, _-_, _*_, _^_, _≤_, _<_, min}
 use native.Mathlib.Omega.{arith}
 use borrow.Author.Needs.{needs}
 use lib.Dec.{T}
+use mir.Syntax.{w64}
+use mir.Val.{Fits}
 use lib.ListN.{length, take, drop}
 use lib.Seq.{length-take-le, take-at}
 use lib.Ieee.{binary32, fits}
@@ -29,6 +31,31 @@ Inv-loop sheet buffer₀ at rate start n block₀ none done₀ buffer block done
 abbrev μ-loop : tie.MeasureT-loop
 μ-loop sheet buffer₀ at rate start n block₀ none done₀ buffer block done = n - done
 
+-- blocks and places, over plain numbers
+block-within : (k left : ℕ) → k ≡ min left 16384 → k ≤ 16384
+block-within k left e = omega arith
+
+more-done : (done n k : ℕ) → k ≡ min (n - done) 16384 → done ≤ n → done + k ≤ n
+more-done done n k e h = omega arith
+
+less-left : (done n k : ℕ) → k ≡ min (n - done) 16384 → done < n → n - (done + k) < n - done
+less-left done n k e h = omega arith
+
+meets : (done n : ℕ) → done ≤ n → n ≤ done → done ≡ n
+meets done n h l = omega arith
+
+whole : (k : ℕ) → k - 0 ≡ k
+whole k = omega arith
+
+sample-fits : (start done n long : ℕ) → done ≤ n → start + n ≤ long → long ≤ 2000000000 → Fits w64 (start + done)
+sample-fits start done n long h l m = omega arith
+
+twice-fits : (start done n long : ℕ) → done ≤ n → start + n ≤ long → long ≤ 2000000000 → Fits w64 (2 * done)
+twice-fits start done n long h l m = omega arith
+
+sum-fits : (start done n long : ℕ) → done ≤ n → start + n ≤ long → long ≤ 2000000000 → Fits w64 done
+sum-fits start done n long h l m = omega arith
+
 rate-small : (c : tie.Start Inv-loop μ-loop) → c .args .rate < 2 ^ 32
 rate-small c = c .good .1 .1 .1 .0 .1
 
@@ -51,7 +78,7 @@ loop-holds : tie.Need-loop-holds Inv-loop μ-loop
 loop-holds c = (omega arith, refl, refl, record { bytes = sym (blocks-none _ _ _ _) })
 
 sub-least : tie.Need-sub-least Inv-loop μ-loop
-sub-least c = search needs
+sub-least c = c .before .loop .inv .0
 
 least-requires : tie.Need-least-requires Inv-loop μ-loop
 least-requires c κs = search needs
@@ -66,18 +93,18 @@ part-block-start : tie.Need-part-block-start Inv-loop μ-loop
 part-block-start c = search needs
 
 part-block-end : tie.Need-part-block-end Inv-loop μ-loop
-part-block-end c = search needs
+part-block-end c = subst (λ (m : ℕ). c .least .result ≤ m) (sym (c .before .before .loop .inv .1)) (block-within (c .least .result) _ (c .least .ensures))
 
 add-mix : tie.Need-add-mix Inv-loop μ-loop
 add-mix c =
     let s = c .before .before .before .before .before in
-    record { fits = omega (arith, c .before .before .before .loop .inv .0, s .pre .1 .0, passing (s .args .rate) (s .args .sheet) (s .pre .0) .length) }
+    sample-fits (s .args .start) (c .before .before .before .loop .done) (s .args .n) _ (c .before .before .before .loop .inv .0) (s .pre .1 .0) (passing (s .args .rate) (s .args .sheet) (s .pre .0) .length)
 
 mix-requires : tie.Need-mix-requires Inv-loop μ-loop
 mix-requires c κs = search needs
 
 mul-write-samples : tie.Need-mul-write-samples Inv-loop μ-loop
-mul-write-samples c = search needs
+mul-write-samples c = let s = c .before .before .before .before .before .before .before .before in twice-fits (s .args .start) (c .before .before .before .before .before .before .loop .done) (s .args .n) _ (c .before .before .before .before .before .before .loop .inv .0) (s .pre .1 .0) (passing (s .args .rate) (s .args .sheet) (s .pre .0) .length)
 
 add-write-samples : tie.Need-add-write-samples Inv-loop μ-loop
 add-write-samples c = search needs
@@ -93,16 +120,16 @@ part-write-samples-start c = search needs
 
 part-write-samples-end : tie.Need-part-write-samples-end Inv-loop μ-loop
 part-write-samples-end c =
-    omega (arith, kept (c .before .before .before), c .before .before .before .before .before .least .ensures)
+    subst (λ (m : ℕ). c .before .before .before .before .before .least .result ≤ m) (sym (kept (c .before .before .before))) (block-within (c .before .before .before .before .before .least .result) _ (c .before .before .before .before .before .least .ensures))
 
 write-samples-requires : tie.Need-write-samples-requires Inv-loop μ-loop
 write-samples-requires c κs = search needs
 
 add-done : tie.Need-add-done Inv-loop μ-loop
-add-done c = search needs
+add-done c = let s = c .before .before .before .before .before .before .before .before .before .before .before .before .before in let l = c .before .before .before .before .before .before .before .before .before .before .before .loop in let k = c .before .before .before .before .before .before .before .before .before .least in sum-fits (s .args .start) (l .done + k .result) (s .args .n) _ (more-done (l .done) (s .args .n) (k .result) (k .ensures) (l .inv .0)) (s .pre .1 .0) (passing (s .args .rate) (s .args .sheet) (s .pre .0) .length)
 
 loop-less : tie.Need-loop-less Inv-loop μ-loop
-loop-less c = search needs
+loop-less c = less-left (c .before .before .before .before .before .before .before .before .before .before .before .loop .done) _ (c .before .before .before .before .before .before .before .before .before .least .result) (c .before .before .before .before .before .before .before .before .before .least .ensures) (c .before .before .before .before .before .before .before .before .before .before .loop-test .taken)
 
 loop-again : tie.Need-loop-again Inv-loop μ-loop
 loop-again c =
@@ -113,10 +140,10 @@ loop-again c =
     let m = c .before .before .before .before .before .before .before .mix in
     let w = c .before .before .write-samples in
     let n = k .result - 0 in
-    let more : l .done + k .result ≤ a .n = omega (arith, k .ensures, l .inv .0) in
-    let part : length (take n (l .block)) ≡ k .result = length-take-le n (l .block) (omega (arith, k .ensures, l .inv .1)) ∙ (let z : n ≡ k .result = omega arith in z) in
+    let more : l .done + k .result ≤ a .n = more-done (l .done) (a .n) (k .result) (k .ensures) (l .inv .0) in
+    let part : length (take n (l .block)) ≡ k .result = length-take-le n (l .block) (subst (λ (m : ℕ). n ≤ m) (sym (l .inv .1)) (block-within n _ (whole (k .result) ∙ k .ensures))) ∙ whole (k .result) in
     let last : length (m .last .1 .0) ≡ n =
-    ap length (m .ensures) ∙ mix-all-length 0 (placed (a .rate) (a .sheet)) (a .start + l .done) (take n (l .block)) ∙ part ∙ (let z : k .result ≡ n = omega arith in z) in
+    ap length (m .ensures) ∙ mix-all-length 0 (placed (a .rate) (a .sheet)) (a .start + l .done) (take n (l .block)) ∙ part ∙ sym (whole (k .result)) in
     let made = take-at (m .last .1 .0) (drop n (l .block)) n last ∙ m .ensures in
     let g = wrote-more (a .rate) (a .sheet) (rate-small s) (s .pre .0) (fitting s) (a .start) (a .at) (a .n) (a .buffer .now) (s .pre .1 .0) (s .pre .1 .1) (l .done) (k .result) (l .buffer) _
     (take n (l .block)) _ (l .inv .3) part more made (w .ensures .1) in (
@@ -133,7 +160,7 @@ returns : tie.Need-returns Inv-loop μ-loop
 returns c =
     let a = c .before .before .before .args in
     let l = c .before .loop in
-    let e : l .done ≡ a .n = omega (arith, l .inv .0, c .loop-test .left) in
+    let e : l .done ≡ a .n = meets (l .done) (a .n) (l .inv .0) (c .loop-test .left) in
     l .inv .3 .bytes ∙ ap (λ (k : ℕ). put (a .buffer .now) (a .at) (bytesOf (samplesFrom (placed (a .rate) (a .sheet)) (a .start) k))) e
 
 pub write-blocks-spec : {M : Type 1} → statement M

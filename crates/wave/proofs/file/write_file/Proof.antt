@@ -2,7 +2,11 @@
 -- Assumes nothing.
 use mathlib.Core.Path.{ap, _∙_}
 use mathlib.Core.List.{List}
-use Prim.Native.Nat.{ℕ}
+use Prim.Native.Nat.{ℕ, _+_, _*_, _≤_}
+use native.Mathlib.Omega.{arith}
+use lib.Dec.{lit≤}
+use mir.Syntax.{w32, w64}
+use mir.Val.{Fits}
 use borrow.Author.Needs.{needs}
 use borrow.Author.Tests.{le-leb, lt-leb}
 use Rattle.wave.specs.File.{samplesIn, told, fileTold, fileIn}
@@ -10,15 +14,28 @@ use Rattle.wave.proofs.Writes.{file-put}
 use Rattle.wave.proofs.file.write_file.Statement.{statement}
 use Rattle.wave.proofs.file.write_file.Tie as tie
 
+-- sizes of a file of so many samples, over plain numbers
+data-fits : (n : ℕ) → n ≤ 2000000000 → Fits w64 (2 * n)
+data-fits n h = omega arith
+
+size-fits : (k n : ℕ) → k ≤ 44 → n ≤ 2000000000 → Fits w64 (k + 2 * n)
+size-fits k n l h = omega arith
+
+size-field : (n : ℕ) → n ≤ 2000000000 → Fits w32 (32 + 2 * n)
+size-field n h = omega arith
+
+count-field : (n : ℕ) → n ≤ 2000000000 → Fits w32 n
+count-field n h = omega arith
+
 returns : tie.Need-returns
 unfolding told fileTold fileIn
 returns c = (rw (lt-leb _ _ (c .if1 .taken), fileTold), rw (lt-leb _ _ (c .if1 .taken), fileIn))
 
 mul-if2 : tie.Need-mul-if2
-mul-if2 c = search needs
+mul-if2 c = data-fits _ (c .if1 .left)
 
 add-if2 : tie.Need-add-if2
-add-if2 c = search needs
+add-if2 c = size-fits 44 _ (lit≤ tt) (c .if1 .left)
 
 returns-2 : tie.Need-returns-2
 unfolding told fileTold fileIn
@@ -27,16 +44,16 @@ returns-2 c =
     (rw (le-leb _ _ few, lt-leb _ _ (c .if2 .taken), fileTold), rw (le-leb _ _ few, lt-leb _ _ (c .if2 .taken), fileIn))
 
 mul-write-header : tie.Need-mul-write-header
-mul-write-header c = search needs
+mul-write-header c = data-fits _ (c .before .before .if1 .left)
 
 add-write-header : tie.Need-add-write-header
-add-write-header c = search needs
+add-write-header c = size-fits 32 _ (lit≤ tt) (c .before .before .if1 .left)
 
 cast-write-header : tie.Need-cast-write-header
-cast-write-header c = search needs
+cast-write-header c = size-field _ (c .before .before .if1 .left)
 
 cast-write-header-2 : tie.Need-cast-write-header-2
-cast-write-header-2 c = search needs
+cast-write-header-2 c = count-field _ (c .before .before .if1 .left)
 
 write-header-requires : tie.Need-write-header-requires
 write-header-requires c κs = search needs
@@ -45,10 +62,10 @@ write-samples-requires : tie.Need-write-samples-requires
 write-samples-requires c κs = search needs
 
 mul-t6 : tie.Need-mul-t6
-mul-t6 c = search needs
+mul-t6 c = data-fits _ (c .before .before .before .before .before .before .before .before .before .if1 .left)
 
 add-t8 : tie.Need-add-t8
-add-t8 c = search needs
+add-t8 c = size-fits 44 _ (lit≤ tt) (c .before .before .before .before .before .before .before .before .before .if1 .left)
 
 same-length : tie.Need-same-length
 same-length c = search needs
