@@ -23,7 +23,7 @@ use Rattle.layout.specs.Layout.{linesAt, linesFrom, notesFrom}
 use Rattle.layout.proofs.Regions.{region-wide}
 use Rattle.parser.specs.declared.sofar.Sofar.{Sofar}
 use Rattle.meaning.specs.Sheets.{plain, nothingRead}
-use Rattle.parser.specs.Columns.{tablesOf, partsFrom, readIn, Fits, Tabled, Blocked, nothingSofar}
+use Rattle.parser.specs.Columns.{sizeColumn, releaseColumn, placeColumn, tablesIn, partsFrom, readIn, Fits, Tabled, Blocked, Kept, nothingSofar}
 use Rattle.parser.proofs.Headers.{block-going, block-refused}
 use Rattle.parser.proofs.ReadLines.{held-whole}
 use Rattle.tables.proofs.Entries.{same-given}
@@ -56,7 +56,7 @@ module _ (b : Block) (fs : List Float) (ss : List ℕ) (e : blockOutcome 1 b fs 
   plain-lines = same-given _ _ (sym (block-going 1 b fs ss plain-accepted) ∙ e)
 
 module _ (zs : List ℕ) (xs : List Float) (ss zs′ : List ℕ) (xs′ : List Float) (ss′ : List ℕ) (rs rs′ : List Float) (b : Block)
-    (lz : length zs ≡ 32) (lx : length xs′ ≡ 6144) (ls : length ss′ ≡ 2048) (lr : length rs ≡ 32) (q : Blocked written 0 0 b xs ss xs′ ss′) where
+    (lz : length zs ≡ 32) (lx : length xs′ ≡ 6176) (ls : length ss′ ≡ 2144) (lr : length rs ≡ 32) (q : Blocked written 0 0 b xs ss xs′ ss′) where
   abbrev fs : List Float
   fs = region 192 0 xs′
 
@@ -89,16 +89,24 @@ module _ (zs : List ℕ) (xs : List Float) (ss zs′ : List ℕ) (xs′ : List F
       first [] l x = absurd (omega (arith, l))
       first (y ∷ ys) l x = refl
 
-  pub default-kept : (b .refusal ≡ 0 → zs′ ≡ set zs 0 (b .count)) → (b .refusal ≡ 0 → rs′ ≡ set rs 0 (releaseOf (linesHeld (b .count) fs ts)))
+  default-kept : (b .refusal ≡ 0 → zs′ ≡ set zs 0 (b .count)) → (b .refusal ≡ 0 → rs′ ≡ set rs 0 (releaseOf (linesHeld (b .count) fs ts)))
       → (linesFrom zs′ xs′ ss′ 0 1 ≡ plain ∷ []) × (take 1 rs′ ≡ releaseOf plain ∷ [])
   default-kept e f = (default-lines (e default-accepted), default-release (f default-accepted))
 
+-- in the columns
+pub default-columns : (b : Block) (xs : List Float) (ss : List ℕ) (xs′ : List Float) (ss′ : List ℕ) → length xs ≡ 6176 → length ss ≡ 2144 → length xs′ ≡ 6176 → length ss′ ≡ 2144
+    → Kept written 0 0 b xs ss xs′ ss′
+    → (linesFrom (sizeColumn ss′) xs′ ss′ 0 1 ≡ plain ∷ []) × (take 1 (releaseColumn xs′) ≡ releaseOf plain ∷ [])
+default-columns b xs ss xs′ ss′ lx lss kx ks q =
+    default-kept (sizeColumn ss) xs ss (sizeColumn ss′) xs′ ss′ (releaseColumn xs) (releaseColumn xs′) b
+    (region-wide 32 66 ss (omega (arith, lss))) kx ks (region-wide 32 192 xs (omega (arith, lx))) (q .block) (q .sizes) (q .releases)
+
 -- ---- nothing else
 
-module _ (s places : List ℕ) (fs : List Float) (is ls : List ℕ) where
-  pub nothing-fits : length places ≡ 32 → length fs ≡ 98304 → length is ≡ 32768 → length ls ≡ 256 → Fits places nothingSofar fs is ls
+module _ (s : List ℕ) (fs : List Float) (is ls : List ℕ) where
+  nothing-fits : length fs ≡ 98304 → length is ≡ 32768 → length ls ≡ 288 → Fits (placeColumn ls) nothingSofar fs is ls
   unfolding nothingSofar atTheStart notesFrom
-  nothing-fits lp lf li ll =
+  nothing-fits lf li ll =
       record {
         few = omega arith;
         start = omega arith;
@@ -110,42 +118,41 @@ module _ (s places : List ℕ) (fs : List Float) (is ls : List ℕ) where
         envs-length = refl;
         counts-length = refl;
         depths-length = refl;
-        places-length = lp;
+        places-length = region-wide 32 8 ls (omega (arith, ll));
         floats-length = lf;
         bytes-length = li;
         loops-length = ll;
       }
 
-  module _ (ms bs ns zs : List ℕ) (xs : List Float) (ss : List ℕ) (rs : List Float) (d : linesFrom zs xs ss 0 1 ≡ plain ∷ []) where
-    pub nothing-tabled : length ms ≡ 128 → length bs ≡ 128 → length ns ≡ 64 → length zs ≡ 32 → length xs ≡ 6144 → length ss ≡ 2048 → length rs ≡ 32
-        → take 1 rs ≡ releaseOf plain ∷ [] → Tabled nothingSofar (tablesOf ms bs ns zs xs ss rs)
+  module _ (ms bs : List ℕ) (xs : List Float) (ss : List ℕ) (d : linesFrom (sizeColumn ss) xs ss 0 1 ≡ plain ∷ []) where
+    nothing-tabled : length ms ≡ 128 → length bs ≡ 128 → length xs ≡ 6176 → length ss ≡ 2144 → take 1 (releaseColumn xs) ≡ releaseOf plain ∷ []
+        → Tabled nothingSofar (tablesIn ms bs xs ss)
     unfolding nothingSofar
-    nothing-tabled lm lb ln lz lx lss lr e =
+    nothing-tabled lm lb lx lss e =
         record {
           macros-few = omega arith;
           instruments-few = omega arith;
           macros-length = lm;
           bodies-length = lb;
-          names-length = ln;
-          sizes-length = lz;
+          names-length = region-wide 64 32 ss (omega (arith, lss));
+          sizes-length = region-wide 32 66 ss (omega (arith, lss));
           numbers-length = lx;
           shape-length = lss;
-          releases-length = lr;
+          releases-length = region-wide 32 192 xs (omega (arith, lx));
           releases = e ∙ sym (ap (map releaseOf) d);
         }
 
-    pub nothing-read : readIn s places nothingSofar fs is ls (tablesOf ms bs ns zs xs ss rs) ≡ nothingRead
+    nothing-read : readIn s (placeColumn ls) nothingSofar fs is ls (tablesIn ms bs xs ss) ≡ nothingRead
     unfolding nothingSofar readIn nothingRead partsFrom macrosIn namesIn
     nothing-read = ap (λ (l : List (List Line)). record { start = atTheStart; parts = []; macros = []; names = []; instruments = l; steps = 0 }) d
 
     -- what the walk asks of where it begins
-    pub begins : (r : Sofar) → r ≡ nothingSofar → length s ≤ 32768 → length places ≡ 32 → length fs ≡ 98304 → length is ≡ 32768 → length ls ≡ 256
-        → length ms ≡ 128 → length bs ≡ 128 → length ns ≡ 64 → length zs ≡ 32 → length xs ≡ 6144 → length ss ≡ 2048 → length rs ≡ 32
-        → take 1 rs ≡ releaseOf plain ∷ []
+    pub begins : (r : Sofar) → r ≡ nothingSofar → length s ≤ 32768 → length fs ≡ 98304 → length is ≡ 32768 → length ls ≡ 288
+        → length ms ≡ 128 → length bs ≡ 128 → length xs ≡ 6176 → length ss ≡ 2144 → take 1 (releaseColumn xs) ≡ releaseOf plain ∷ []
         → (length s ≤ 32768)
-        × ((r .refusal ≡ 0) × ((r .at ≡ 0) × ((r .line ≡ 1) × (Fits places r fs is ls × Tabled r (tablesOf ms bs ns zs xs ss rs)))))
+        × ((r .refusal ≡ 0) × ((r .at ≡ 0) × ((r .line ≡ 1) × (Fits (placeColumn ls) r fs is ls × Tabled r (tablesIn ms bs xs ss)))))
     unfolding nothingSofar
-    begins r e small lp lf li ll lm lb ln lz lx lss lr t = (
+    begins r e small lf li ll lm lb lx lss t = (
       small,
       (
         ap (λ (x : Sofar). x .refusal) e,
@@ -154,13 +161,13 @@ module _ (s places : List ℕ) (fs : List Float) (is ls : List ℕ) where
           (
             ap (λ (x : Sofar). x .line) e,
             (
-              subst (λ (x : Sofar). Fits places x fs is ls) (sym e) (nothing-fits lp lf li ll),
-              subst (λ (x : Sofar). Tabled x (tablesOf ms bs ns zs xs ss rs)) (sym e) (nothing-tabled lm lb ln lz lx lss lr t),
+              subst (λ (x : Sofar). Fits (placeColumn ls) x fs is ls) (sym e) (nothing-fits lf li ll),
+              subst (λ (x : Sofar). Tabled x (tablesIn ms bs xs ss)) (sym e) (nothing-tabled lm lb lx lss t),
             ),
           ),
         ),
       ),
     )
 
-    pub begun-read : (r : Sofar) → r ≡ nothingSofar → readIn s places r fs is ls (tablesOf ms bs ns zs xs ss rs) ≡ nothingRead
-    begun-read r e = ap (λ (x : Sofar). readIn s places x fs is ls (tablesOf ms bs ns zs xs ss rs)) e ∙ nothing-read
+    pub begun-read : (r : Sofar) → r ≡ nothingSofar → readIn s (placeColumn ls) r fs is ls (tablesIn ms bs xs ss) ≡ nothingRead
+    begun-read r e = ap (λ (x : Sofar). readIn s (placeColumn ls) x fs is ls (tablesIn ms bs xs ss)) e ∙ nothing-read

@@ -23,16 +23,17 @@ use Rattle.blocks.specs.Blocks.{linesIn, blockOutcome}
 use Rattle.commands.specs.Commands.{linesHeld}
 use Rattle.layout.specs.Regions.{region}
 use Rattle.layout.specs.Layout.{linesAt, linesFrom}
-use Rattle.layout.proofs.Regions.{region-wide}
+use Rattle.layout.proofs.Regions.{lent, back, lent-region, region-wide, back-length, back-here, back-beside}
 use Rattle.lines.specs.Names.{namesIn}
 use Rattle.tables.specs.Tables.{headerOf, headerLine, numberOf, headersAfter}
 use Rattle.tables.proofs.NamesGrown.{names-grown}
 use Rattle.tables.proofs.Taken.{names-many}
 use Rattle.parser.specs.declared.sofar.Sofar.{Sofar}
 use Rattle.meaning.specs.Sheets.{Read, readOf, headerRead}
-use Rattle.parser.specs.Columns.{Tables, tablesOf, readIn, Fits, Tabled, Begins, Goes, Blocked, refusedAt, passedTo}
+use Rattle.parser.specs.Columns.{Tables, tablesOf, nameColumn, sizeColumn, releaseColumn, tablesIn, readIn, Fits, Tabled, Begins, Goes, Blocked, Kept, refusedAt, passedTo}
 use Rattle.parser.proofs.Numbers.{At, header-at, at-refused, at-number, number-of}
 use Rattle.parser.proofs.Going.{lined, read-going, goes-refused, fits-passed}
+use Rattle.parser.proofs.Pieces.{after-lent}
 use Rattle.parser.proofs.ReadLines.{OfLines, all-of-lines, lines-length, held-whole}
 
 -- ---- instruments in their regions
@@ -202,7 +203,8 @@ module _ (s places : List ℕ) (r : Sofar) (fs : List Float) (is ls ms bs ns zs 
         unfolding linesAt
         beside j h =
             let no : j ≡ i → ⊥ = λ v. absurd (omega (arith, v, h)) in
-            ap₂ (λ (a : List Float) (c : List ℕ). linesHeld (getD zs j 0) a c) (sym (q .numbers j no)) (sym (q .shape j no))
+            let l : j < 32 = omega (arith, h, few) in
+            ap₂ (λ (a : List Float) (c : List ℕ). linesHeld (getD zs j 0) a c) (sym (q .numbers j l no)) (sym (q .shape j l no))
             ∙ ap (λ (c : ℕ). linesHeld c (region 192 j xs′) (region 64 j ss′)) (sym (getD-set-other zs i j (k .count) 0 no))
 
         here : linesAt zs′ xs′ ss′ (0 + i) ≡ own
@@ -282,3 +284,64 @@ module _ (s places : List ℕ) (r : Sofar) (fs : List Float) (is ls ms bs ns zs 
               (λ (v : List ℕ). Goes (headerRead line text below before) (1 + length (operatorLines below)) s places r after fs is ls (tablesOf ms bs ns′ v xs′ ss′ rs′))
               (sym e)
               goes-with
+
+-- ---- the header in the columns
+
+-- the names are lent, and what comes back is as long
+module _ (ss : List ℕ) (ls : length ss ≡ 2144) where
+  room : 64 * 32 + 64 ≤ length ss
+  room = omega (arith, ls)
+
+  pub names-long : length (lent 64 32 ss) ≡ 64
+  names-long = ap length (lent-region 64 32 ss) ∙ region-wide 64 32 ss room
+
+  pub names-back : (ys : List ℕ) → length ys ≡ length (lent 64 32 ss) → length (back 64 32 ss ys) ≡ length ss
+  names-back ys h = back-length 64 32 ss ys room (h ∙ names-long)
+
+module _ (s places : List ℕ) (r : Sofar) (fs : List Float) (is ls ms bs : List ℕ) (xs : List Float) (ss : List ℕ) (end next n : ℕ) (b : Begins s r end next) (w : Fits places r fs is ls) (g : Tabled r (tablesIn ms bs xs ss)) (e : n ≡ numberOf (headerLine (r .line) s (r .at) end (r .instruments) (lent 64 32 ss))) where
+  abbrev Came : Sofar → Tables → Type 0
+  Came q u =
+      Goes (headerRead (r .line) (lineOf (drop (r .at) s)) (linesOf (drop next s)) (readIn s places r fs is ls (tablesIn ms bs xs ss))) (1 + length (operatorLines (linesOf (drop next s)))) s places r q fs is ls u
+
+  told : n ≡ numberOf (headerLine (r .line) s (r .at) end (r .instruments) (nameColumn ss))
+  unfolding region
+  told = e
+
+  pub column-refuses : (u : Tables) → (n ≡ 0 → ⊥) → Came (refusedAt r n (r .line)) u
+  column-refuses u z = header-refuses s places r fs is ls ms bs (nameColumn ss) (sizeColumn ss) xs ss (releaseColumn xs) end next n b w g u told z
+
+  headers : (ys : List ℕ) → ys ≡ headersAfter (headerLine (r .line) s (r .at) end (r .instruments) (lent 64 32 ss)) s (r .at) end (r .instruments) (lent 64 32 ss)
+      → ys ≡ headersAfter (headerLine (r .line) s (r .at) end (r .instruments) (nameColumn ss)) s (r .at) end (r .instruments) (nameColumn ss)
+  unfolding region
+  headers ys h = h
+
+  module _ (z : n ≡ 0) (ys : List ℕ) (long : length ys ≡ length (lent 64 32 ss)) (k : Block) (xs′ : List Float) (ss′ : List ℕ) (q : Kept s next (r .instruments + 1) k xs (back 64 32 ss ys) xs′ ss′) where
+    wide : 64 * 32 + 64 ≤ length ss
+    wide = room ss (g .shape-length)
+
+    as-long : length ys ≡ 64
+    as-long = long ∙ names-long ss (g .shape-length)
+
+    blocked : Blocked s next (r .instruments + 1) k xs ss xs′ ss′
+    blocked =
+        let c = q .block in
+        record {
+          read = c .read;
+          lines = c .lines;
+          few = c .few;
+          onward = c .onward;
+          inside = c .inside;
+          numbers = c .numbers;
+          shape = λ j l no. c .shape j l no ∙ back-beside 64 32 ss ys wide as-long j (λ v. omega (arith, l, v));
+        }
+
+    pub column-block-refuses : (u : Tables) → (k .refusal ≡ 0 → ⊥) → Came (refusedAt r (k .refusal) (r .line + 1 + k .count)) u
+    column-block-refuses u y = block-refuses s places r fs is ls ms bs (nameColumn ss) (sizeColumn ss) xs ss (releaseColumn xs) end next n b w g told z k xs′ ss′ blocked u y
+
+    pub column-goes : k .refusal ≡ 0 → length xs′ ≡ length xs → length ss′ ≡ length ss → ys ≡ headersAfter (headerLine (r .line) s (r .at) end (r .instruments) (lent 64 32 ss)) s (r .at) end (r .instruments) (lent 64 32 ss)
+        → Came (passedTo r (r .macros) (r .instruments + 1) (r .line + 1 + k .count) (k .next)) (tablesIn ms bs xs′ ss′)
+    column-goes y lx ly en =
+        let named : nameColumn ss′ ≡ ys = q .names ∙ back-here 64 32 ss ys wide as-long in
+        header-goes s places r fs is ls ms bs (nameColumn ss) (sizeColumn ss) xs ss (releaseColumn xs) end next n b w g told z k xs′ ss′ blocked y lx ly
+        (nameColumn ss′) (releaseColumn xs′) (ap length named ∙ long ∙ ap length (lent-region 64 32 ss)) (named ∙ headers ys en) (q .releases y)
+        (sizeColumn ss′) (q .sizes y ∙ ap (λ (zs : List ℕ). set zs (r .instruments + 1) (k .count)) (after-lent 64 32 ss ys wide as-long 32 66 (omega arith)))

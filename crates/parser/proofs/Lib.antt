@@ -15,7 +15,10 @@ pub mod Numbers
 pub mod PartLines
 pub mod PartPlaces
 pub mod PartReads
+pub mod PartWays
+pub mod Pieces
 pub mod Playing
 pub mod ReadLines
 pub mod Sheeting
+pub mod Storing
 pub mod Walking

@@ -16,15 +16,18 @@ use Rattle.lines.specs.Names.{between, namesIn, placeAmong}
 use Rattle.lines.specs.Tokens.{Named, namedOf, nameAt, namedBy}
 use Rattle.lines.proofs.Places.{between-part}
 use Rattle.lines.proofs.Named.{named-is}
-use Rattle.sheet.specs.Capacities.{partsMost}
+use Rattle.sheet.specs.Capacities.{partsMost, loopsMost}
 use Rattle.part.specs.Body.{Book}
 use Rattle.tables.specs.Tables.{withEntry}
 use Rattle.tables.proofs.MacroLines.{name-ends}
+use Rattle.layout.specs.Regions.{region}
 use Rattle.parser.specs.declared.sofar.Sofar.{Sofar}
-use Rattle.meaning.specs.Parts.{linePlayed}
-use Rattle.parser.specs.Columns.{partsFrom, playedIn, Fits, Came, refusedAt}
-use Rattle.parser.specs.PartSteps.{withNew, WithPart, calledAs, LineCame}
+use Rattle.meaning.specs.Parts.{NamedPart, linePlayed}
+use Rattle.parser.specs.Columns.{placeColumn, partAt, partsFrom, playedIn, Fits, Came, refusedAt}
+use Rattle.parser.specs.PartSteps.{withNew, withPart, NamedAt, calledAs, LineCame}
 use Rattle.parser.proofs.Playing.{played-going}
+use Rattle.parser.proofs.PartPlaces.{parts-same}
+use Rattle.parser.proofs.Storing.{with-known, with-new}
 use Rattle.parser.proofs.Adding.{place-is, place-new, fits-new, came-new, came-full}
 
 -- ---- what the line says
@@ -57,7 +60,7 @@ module _ (book : Book) (s places : List ℕ) (from end : ℕ) (r : Sofar) (fs : 
   text = take (length l - p .end) (drop (p .end) l)
 
   -- what the line is to come to
-  abbrev StepCame : Option Named → List ℕ → Sofar → List Float → List ℕ → List ℕ → Type 0
+  abbrev pub StepCame : Option Named → List ℕ → Sofar → List Float → List ℕ → List ℕ → Type 0
   StepCame n places′ q gs js ms = Came (linePlayed book (r .start) (r .line) n (playedIn s places r fs is ls)) s places′ r q gs js ms
 
   pub step-bare : p .two ≡ false → r .refusal ≡ 0 → Fits places r fs is ls → StepCame (namedOf l) places r fs is ls
@@ -109,28 +112,104 @@ module _ (book : Book) (s places : List ℕ) (from end : ℕ) (r : Sofar) (fs : 
         named places (refusedAt r 21 (r .line)) fs is ls
         (came-full s places r fs is ls g name book text (omega (arith, h, absent past .0)) (absent past .1))
 
-    -- the part is there, or there now
-    module _ (room : k < partsMost) (inside : from ≤ end) (more : List ℕ) (m : Sofar) (w : WithPart k (from + p .from) (from + p .end) places r more m) where
-      abbrev Known : List ℕ → Sofar → Type 0
-      Known ps u =
-          (k < u .parts)
-          × ((r .refusal ≡ 0 → u .refusal ≡ 0)
-          × (Fits ps u fs is ls
-          × ((q : Sofar) (gs : List Float) (js ms : List ℕ) → LineCame book text k u q fs is ls gs js ms → StepCame (namedOf l) ps q gs js ms)))
+-- ---- loops that are as they were
 
-      pub step-known : Known more m
-      unfolding withNew
-      step-known = go (ltb k (r .parts)) refl
-        where
-          go : (b : Bool) → ltb k (r .parts) ≡ b → Known more m
-          go true q =
-              let h = ltb-true k (r .parts) q in
-              let f = w .known h in
-              subst (λ (ps : List ℕ). Known ps m) (sym (f .0)) (subst (Known places) (sym (f .1)) (h, (λ z. z, (g, step-there))))
-          go false q =
-              let h = ltb-false k (r .parts) q in
-              let f = w .new h in
-              let few : r .parts < partsMost = omega (arith, h, room) in
-              subst (λ (ps : List ℕ). Known ps m) (sym (f .0))
-              (subst (Known (withEntry (r .parts) (from + p .from) (from + p .end) places)) (sym (f .1))
-              (omega (arith, absent h .0), (λ z. z, (fits-more h few inside, step-new h few inside))))
+module _ (fs : List Float) (is ls ls′ : List ℕ) (same : (j : ℕ) → j < partsMost → region (2 * loopsMost) j ls′ ≡ region (2 * loopsMost) j ls) (long : length ls′ ≡ length ls) where
+  fits-loops : (places : List ℕ) (r : Sofar) → Fits places r fs is ls → Fits places r fs is ls′
+  fits-loops places r g =
+      record {
+        few = g .few;
+        start = g .start;
+        octaves = g .octaves;
+        counts = g .counts;
+        depths = g .depths;
+        all = g .all;
+        notes = g .notes;
+        envs-length = g .envs-length;
+        counts-length = g .counts-length;
+        depths-length = g .depths-length;
+        places-length = g .places-length;
+        floats-length = g .floats-length;
+        bytes-length = g .bytes-length;
+        loops-length = long ∙ g .loops-length;
+      }
+
+  parts-loops : (s places : List ℕ) (r : Sofar) → Fits places r fs is ls → partsFrom s places r fs is ls′ 0 (r .parts) ≡ partsFrom s places r fs is ls 0 (r .parts)
+  unfolding partAt
+  parts-loops s places r g =
+      parts-same s places r fs is ls places r fs is ls′ 0 (r .parts) (λ j h. rw (same j (omega (arith, h, g .few))) refl)
+
+  line-loops : (book : Book) (text : List ℕ) (k : ℕ) (r q : Sofar) (gs : List Float) (js ms : List ℕ) → LineCame book text k r q fs is ls′ gs js ms
+      → LineCame book text k r q fs is ls gs js ms
+  unfolding playedIn
+  line-loops book text k r q gs js ms h s places name g n =
+      let e = parts-loops s places r g in
+      subst
+      (λ (ps : List NamedPart). Came (linePlayed book (r .start) (r .line) (some (record { name = name; body = text })) (record { parts = ps; steps = r .steps })) s places r q gs js ms)
+      e
+      (h s places name (fits-loops places r g) (n ∙ ap (λ (ps : List NamedPart). placeAmong name (calledAs ps)) (sym e)))
+
+-- ---- the part is there, or there now
+
+module _ (book : Book) (s : List ℕ) (from end : ℕ) (r : Sofar) (fs : List Float) (is ls : List ℕ) (p : NameAt) (e : p ≡ nameAt (between s from end)) (t : p .two ≡ true)
+    (g : Fits (placeColumn ls) r fs is ls) (k : ℕ) (found : k ≡ placeAmong (name book s (placeColumn ls) from end r fs is ls p e) (namesIn s (take (2 * r .parts) (placeColumn ls))))
+    (room : k < partsMost) (inside : from ≤ end) (ls′ : List ℕ) (w : NamedAt k (r .parts) (from + p .from) (from + p .end) ls ls′) (long : length ls′ ≡ length ls) where
+  abbrev Stepped : List ℕ → Sofar → List Float → List ℕ → List ℕ → Type 0
+  Stepped = StepCame book s (placeColumn ls) from end r fs is ls p e (namedOf (between s from end))
+
+  abbrev Known : List ℕ → Sofar → Type 0
+  Known ps u =
+      (k ≤ r .parts)
+      × ((k < u .parts)
+      × ((u .refusal ≡ r .refusal)
+      × ((u .line ≡ r .line)
+      × (Fits ps u fs is ls′
+      × ((q : Sofar) (gs : List Float) (js ms : List ℕ)
+      → LineCame book (text book s (placeColumn ls) from end r fs is ls p e) k u q fs is ls′ gs js ms → Stepped ps q gs js ms)))))
+
+  pub step-known : Known (placeColumn ls′) (withPart r k)
+  unfolding withNew
+  step-known = go (ltb k (r .parts)) refl
+    where
+      go : (b : Bool) → ltb k (r .parts) ≡ b → Known (placeColumn ls′) (withPart r k)
+      go true q =
+          let h = ltb-true k (r .parts) q in
+          let same = w .known h in
+          subst (Known (placeColumn ls′)) (sym (with-known r k h)) (
+            omega (arith, h),
+            (
+              h,
+              (
+                refl,
+                (
+                  refl,
+                  (
+                    subst (λ (l : List ℕ). Fits (placeColumn l) r fs is ls′) (sym same) (fits-loops fs is ls ls′ (w .loops) long (placeColumn ls) r g),
+                    λ q gs js ms c. subst (λ (l : List ℕ). Stepped (placeColumn l) q gs js ms) (sym same)
+                        (step-there book s (placeColumn ls) from end r fs is ls p e t g k found q gs js ms (line-loops fs is ls ls′ (w .loops) long book _ k r q gs js ms c)),
+                  ),
+                ),
+              ),
+            ),
+          )
+      go false q =
+          let h = ltb-false k (r .parts) q in
+          let few : r .parts < partsMost = omega (arith, h, room) in
+          let a = absent book s (placeColumn ls) from end r fs is ls p e t g k found h in
+          subst (Known (placeColumn ls′)) (sym (with-new r k h))
+          (subst (λ (ps : List ℕ). Known ps (withNew r)) (sym (w .new h)) (
+            omega (arith, a .0),
+            (
+              omega (arith, a .0),
+              (
+                refl,
+                (
+                  refl,
+                  (
+                    fits-loops fs is ls ls′ (w .loops) long _ (withNew r) (fits-more book s (placeColumn ls) from end r fs is ls p e t g k found h few inside),
+                    λ q gs js ms c. step-new book s (placeColumn ls) from end r fs is ls p e t g k found h few inside q gs js ms (line-loops fs is ls ls′ (w .loops) long book _ k (withNew r) q gs js ms c),
+                  ),
+                ),
+              ),
+            ),
+          ))

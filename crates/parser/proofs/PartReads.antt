@@ -1,25 +1,28 @@
 -- A part's line as a step of the walk: what it makes of the parts, told of the whole reading. Assumes nothing.
-use mathlib.Core.Path.{_≡_, refl, sym, ap, ap₂, _∙_}
+use mathlib.Core.Path.{_≡_, refl, sym, ap, ap₂, subst, _∙_}
 use mathlib.Core.List.{List}
-use Prim.Native.Nat.{ℕ, zero, suc, _+_, _*_, _≤_}
+use Prim.Native.Nat.{ℕ, zero, suc, _+_, _*_, _-_, _≤_}
 use native.Mathlib.Omega.{arith}
 use lib.ListN.{length, take, drop, length-take}
 use lib.Ieee.{Float}
 use Rattle.lines.specs.Lines.{lineOf}
-use Rattle.lines.specs.Names.{between, namesIn}
+use Rattle.lines.specs.Names.{between, namesIn, placeAmong}
 use Rattle.lines.specs.Tokens.{namedOf}
 use Rattle.sheet.specs.Refusals.{Outcome, going, refused}
 use Rattle.sheet.proofs.Outcomes.{then-going, then-refused}
 use Rattle.environment.specs.declared.environment.Environment.{Environment}
 use Rattle.part.specs.Body.{Book}
+use Rattle.part.specs.declared.state.State.{State}
 use Rattle.tables.specs.Named.{macrosIn}
 use Rattle.part.specs.Columns.{bookIn}
 use Rattle.layout.specs.Layout.{linesFrom}
 use Rattle.parser.specs.declared.sofar.Sofar.{Sofar}
 use Rattle.meaning.specs.Parts.{Played, linePlayed}
 use Rattle.meaning.specs.Sheets.{Read, readOf, bookOf, partRead}
-use Rattle.parser.specs.Columns.{Tables, tablesOf, partsFrom, playedIn, playedOutcome, readIn, Fits, Tabled, Begins, Goes, Came, passedTo}
-use Rattle.parser.proofs.Going.{lined, goes-ended, goes-on, fits-passed, tabled-as}
+use Rattle.parser.specs.Columns.{nameColumn, releaseColumn, placeColumn, Tables, tablesOf, partsFrom, playedIn, playedOutcome, readIn, Fits, Tabled, Begins, Goes, Came, passedTo}
+use Rattle.parser.specs.PartSteps.{Passed, bodyAt, BodyCame}
+use Rattle.parser.proofs.Pieces.{region-front}
+use Rattle.parser.proofs.Going.{lined, goes-as, goes-ended, goes-on, fits-passed, tabled-as}
 
 module _ (s places : List ℕ) (q : Sofar) (fs : List Float) (is ls : List ℕ) where
   played-going : q .refusal ≡ 0 → playedOutcome s places q fs is ls ≡ going (playedIn s places q fs is ls)
@@ -34,9 +37,30 @@ module _ (s places : List ℕ) (q : Sofar) (fs : List Float) (is ls : List ℕ) 
       go zero e = absurd (n e)
       go (suc k) e = rw (e, playedOutcome)
 
--- some of the first elements
-pub take-few : (n : ℕ) (xs : List Float) → n ≤ 32 → length (take n xs) ≤ 32
-take-few n xs h = omega (arith, h, length-take n xs)
+-- ---- the tables as far as they are filled, as parts of their columns
+
+-- the first releases
+pub few-as : (xs : List Float) (n : ℕ) → n ≤ 32 → length (take (6144 + n - 6144) (drop 6144 xs)) ≤ 32
+few-as xs n h = omega (arith, h, length-take (6144 + n - 6144) (drop 6144 xs))
+
+-- the first places of names
+pub first-places : (s name ls : List ℕ) (n k : ℕ) → n ≤ 16 → k ≡ placeAmong name (namesIn s (take (256 + 2 * n - 256) (drop 256 ls)))
+    → k ≡ placeAmong name (namesIn s (take (2 * n) (placeColumn ls)))
+first-places s name ls n k h e = e ∙ ap (λ (ps : List ℕ). placeAmong name (namesIn s ps)) (region-front 32 8 ls 256 (2 * n) refl (omega (arith, h)))
+
+-- a body that is read with what is lent of the columns
+module _ (rate : ℕ) (s ms bs : List ℕ) (xs : List Float) (ss : List ℕ) (r : Sofar) (few : r .instruments + 1 ≤ 32) (line : ℕ) (text : List ℕ) (k : ℕ) (st q : State) (fs : List Float) (is ls : List ℕ) (gs : List Float) (js ns : List ℕ) where
+  abbrev ReadBy : List ℕ → List Float → Type 0
+  ReadBy names releases =
+      BodyCame (bodyAt (bookIn rate s (take (2 * r .macros) ms) (take (2 * r .macros) bs) names releases) line text k st fs is ls) k st q fs is ls gs js ns
+
+  pub body-as : ReadBy (take (2048 + 2 * r .instruments - 2048) (drop 2048 ss)) (take (6144 + (r .instruments + 1) - 6144) (drop 6144 xs))
+      → ReadBy (take (2 * r .instruments) (nameColumn ss)) (take (r .instruments + 1) (releaseColumn xs))
+  body-as h =
+      subst (λ (v : List Float). ReadBy (take (2 * r .instruments) (nameColumn ss)) v) (region-front 32 192 xs 6144 (r .instruments + 1) refl (omega (arith, few)))
+      (subst (λ (v : List ℕ). ReadBy v (take (6144 + (r .instruments + 1) - 6144) (drop 6144 xs))) (region-front 64 32 ss 2048 (2 * r .instruments) refl (omega (arith, few))) h)
+
+-- ---- the line
 
 module _ (rate : ℕ) (s places : List ℕ) (r : Sofar) (fs : List Float) (is ls ms bs ns zs : List ℕ) (xs : List Float) (ss : List ℕ) (rs : List Float) (end next : ℕ) (b : Begins s r end next) (g : Tabled r (tablesOf ms bs ns zs xs ss rs)) where
   abbrev tables : Tables
@@ -65,12 +89,6 @@ module _ (rate : ℕ) (s places : List ℕ) (r : Sofar) (fs : List Float) (is ls
       ap₂ (λ (k : Book) (l : List ℕ). linePlayed k (r .start) (r .line) (namedOf l) (playedIn s places r fs is ls)) same-book (lined s r end next b .line)
 
   module _ (places′ : List ℕ) (q : Sofar) (fs′ : List Float) (is′ ls′ : List ℕ) (c : Came said s places′ r q fs′ is′ ls′) where
-    pub part-refuses : (q .refusal ≡ 0 → ⊥) → Goes (partRead rate (r .line) (namedOf text) before) 1 s places′ r q fs′ is′ ls′ tables
-    unfolding partRead readIn
-    part-refuses n =
-        goes-ended s places′ r fs′ is′ ls′ tables q _ 1 n
-        (then-refused (q .refusal) (q .line) _ _ (sym says ∙ sym (c .means) ∙ played-refused s places′ q fs′ is′ ls′ n))
-
     abbrev after : Sofar
     after = passedTo q (q .macros) (q .instruments) (q .line + 1) next
 
@@ -96,10 +114,24 @@ module _ (rate : ℕ) (s places : List ℕ) (r : Sofar) (fs : List Float) (is ls
           ap (λ (e : Environment). reading e (r .macros) (r .instruments)) (sym (c .start))
           ∙ ap₂ (λ (m i : ℕ). reading (q .start) m i) (sym (c .macros)) (sym (c .instruments))
 
-      pub part-goes : Goes (partRead rate (r .line) (namedOf text) before) 1 s places′ r after fs′ is′ ls′ tables
+      part-goes : Goes (partRead rate (r .line) (namedOf text) before) 1 s places′ r after fs′ is′ ls′ tables
       unfolding partRead readIn playedIn reading
       part-goes =
           goes-on s places′ r fs′ is′ ls′ tables after end next _ b z refl (ap (λ (l : ℕ). l + 1) (c .line z)) now-fits
           (tabled-as r after tables (c .macros) (c .instruments) g)
           (then-going (playedIn s places′ q fs′ is′ ls′) _ _ (sym says ∙ sym (c .means) ∙ played-going s places′ q fs′ is′ ls′ z)
           ∙ ap going kept)
+
+    -- a reading that goes on behind what has come of the line, or has its refusal
+    pub part-passed : (t : Sofar) → Passed next q t → Goes (partRead rate (r .line) (namedOf text) before) 1 s places′ r t fs′ is′ ls′ tables
+    unfolding partRead readIn
+    part-passed t p = go (q .refusal) refl
+      where
+        go : (n : ℕ) → q .refusal ≡ n → Goes (partRead rate (r .line) (namedOf text) before) 1 s places′ r t fs′ is′ ls′ tables
+        go zero e = goes-as _ _ s places′ r t after fs′ is′ ls′ tables (p .on e) (part-goes e)
+        go (suc n) e =
+            let no : q .refusal ≡ 0 → ⊥ = λ z. omega (arith, z, e) in
+            let same = p .ended no in
+            goes-ended s places′ r fs′ is′ ls′ tables t _ 1 (λ z. no (sym (same .0) ∙ z))
+            (then-refused (t .refusal) (t .line) _ _
+            (sym says ∙ sym (c .means) ∙ played-refused s places′ q fs′ is′ ls′ no ∙ ap₂ (λ (a l : ℕ). refused a l) (sym (same .0)) (sym (same .1))))

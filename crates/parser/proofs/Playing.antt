@@ -26,10 +26,11 @@ use Rattle.layout.specs.Layout.{notesAt, notesFrom}
 use Rattle.layout.proofs.Regions.{lent, back, lent-region, region-wide, back-here, back-beside, back-length}
 use Rattle.parser.specs.declared.sofar.Sofar.{Sofar}
 use Rattle.meaning.specs.Parts.{NamedPart, Played, notesOf, withPartNamed, linePlayed}
-use Rattle.parser.specs.Columns.{partAt, partsFrom, playedIn, playedOutcome, Fits, Came, refusedAt}
+use Rattle.parser.specs.Columns.{placeColumn, partAt, partsFrom, playedIn, playedOutcome, Fits, Came, refusedAt}
 use Rattle.parser.specs.PartSteps.{stateOf, keptWith, storedAs, Beside, BodyCame, ReadyAt, bodyAt, calledAs, LineCame}
 use Rattle.parser.proofs.Bodies.{Others, body-numbered, body-others}
 use Rattle.parser.proofs.NamedParts.{named-there, with-there, notes-set, begun, ended, lineOf, line-known}
+use Rattle.parser.proofs.Pieces.{after-lent}
 use Rattle.parser.proofs.PartPlaces.{element-any, element-set, parts-length, part-of, notes-of, notes-many, parts-but}
 
 -- ---- which states are ready
@@ -67,7 +68,7 @@ module _ (book : Book) (line : ℕ) (text : List ℕ) (st q : State) where
   read-on fs is ls e = rw (e, partIn)
 
   module _ (k : ℕ) (fs : List Float) (is ls : List ℕ) (gs : List Float) (js ms : List ℕ) where
-    pub body-came : k < partsMost → length fs ≡ 3 * notesMost * partsMost → length is ≡ notesMost * partsMost → length ls ≡ 2 * loopsMost * partsMost
+    pub body-came : k < partsMost → length fs ≡ 3 * notesMost * partsMost → length is ≡ notesMost * partsMost → length ls ≡ 2 * loopsMost * partsMost + 2 * partsMost
         → length (book .releases) ≤ instrumentsMost → ReadyAt k st fs is ls
         → length gs ≡ length (lent (3 * notesMost) k fs) → length js ≡ length (lent notesMost k is) → length ms ≡ length (lent (2 * loopsMost) k ls)
         → Promised (lent (3 * notesMost) k fs) (lent notesMost k is) (lent (2 * loopsMost) k ls) gs js ms
@@ -98,6 +99,13 @@ module _ (book : Book) (line : ℕ) (text : List ℕ) (st q : State) where
             loops-length = back-length (2 * loopsMost) k ls ms (omega (arith, h, ll)) lm;
           };
         }
+
+-- the places of the parts' names lie behind all loops
+pub body-places : (k : ℕ) (ls ms : List ℕ) → k < partsMost → length ls ≡ 2 * loopsMost * partsMost + 2 * partsMost → length ms ≡ length (lent (2 * loopsMost) k ls)
+    → placeColumn (back (2 * loopsMost) k ls ms) ≡ placeColumn ls
+body-places k ls ms h l e =
+    let room : 16 * k + 16 ≤ length ls = omega (arith, h, l) in
+    after-lent 16 k ls ms room (e ∙ ap length (lent-region 16 k ls) ∙ region-wide 16 k ls room) 32 8 (omega (arith, h))
 
 -- what its outcome has
 module _ (book : Book) (line : ℕ) (text : List ℕ) (k : ℕ) (st : State) (fs : List Float) (is ls : List ℕ) where
@@ -371,9 +379,8 @@ state-is r k d h = rw (element-any (r .envs) k d atTheStart h) refl
 
 pub line-whole : (book : Book) (text : List ℕ) (k : ℕ) (r : Sofar) (fs : List Float) (is ls : List ℕ) (gs : List Float) (js ms : List ℕ) → k < r .parts → r .refusal ≡ 0
     → (b : State) → b ≡ stateOf r k → (q : State) → BodyCame (bodyAt book (r .line) text k b fs is ls) k b q fs is ls gs js ms
-    → (t : Sofar) → t ≡ storedAs r k q → LineCame book text k r t fs is ls gs js ms
+    → LineCame book text k r (storedAs r k q) fs is ls gs js ms
 unfolding playedIn
-line-whole book text k r fs is ls gs js ms h z b e q c t f s places name g n =
-    subst (λ (x : Sofar). Came (linePlayed book (r .start) (r .line) (some (record { name = name; body = text })) (playedIn s places r fs is ls)) s places r x gs js ms) (sym f)
-    (line-came places r fs is ls g k h book s name text n gs js ms z q
-    (subst (λ (x : State). BodyCame (bodyAt book (r .line) text k x fs is ls) k x q fs is ls gs js ms) e c))
+line-whole book text k r fs is ls gs js ms h z b e q c s places name g n =
+    line-came places r fs is ls g k h book s name text n gs js ms z q
+    (subst (λ (x : State). BodyCame (bodyAt book (r .line) text k x fs is ls) k x q fs is ls gs js ms) e c)

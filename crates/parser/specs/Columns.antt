@@ -5,7 +5,7 @@ use mathlib.Core.Path.{_≡_}
 use mathlib.Core.List.{List, [], _∷_, map}
 use mathlib.Core.Option.{none}
 use Prim.Native.Nat.{ℕ, zero, suc, _+_, _*_, _≤_, _<_}
-use lib.ListN.{length, take, drop, getD, replicate}
+use lib.ListN.{length, take, drop, getD, set, replicate}
 use lib.Ieee.{Float}
 use Rattle.lines.specs.Lines.{linesOf, lineAt}
 use Rattle.lines.specs.Names.{between, namesIn}
@@ -17,6 +17,7 @@ use Rattle.environment.specs.Environment.{atTheStart}
 use Rattle.blocks.specs.declared.block.Block.{Block}
 use Rattle.operators.specs.OperatorLines.{operatorLines, operatorsRead}
 use Rattle.blocks.specs.Blocks.{blockOutcome}
+use Rattle.commands.specs.Commands.{linesHeld}
 use Rattle.tables.specs.Named.{macrosIn}
 use Rattle.part.specs.Columns.{loopsIn}
 use Rattle.layout.specs.Regions.{region}
@@ -73,7 +74,7 @@ pub record Fits (places : List ℕ) (r : Sofar) (fs : List Float) (is ls : List 
   pub places-length : length places ≡ 2 * partsMost
   pub floats-length : length fs ≡ 3 * notesMost * partsMost
   pub bytes-length : length is ≡ notesMost * partsMost
-  pub loops-length : length ls ≡ 2 * loopsMost * partsMost
+  pub loops-length : length ls ≡ 2 * loopsMost * partsMost + 2 * partsMost
 
 -- what a part's line makes of a reading: this has come of it, and nothing but the parts has changed
 pub record Came (o : Outcome Played) (s places : List ℕ) (r q : Sofar) (fs : List Float) (is ls : List ℕ) : Type 0 where
@@ -101,6 +102,24 @@ abbrev pub tablesOf : List ℕ → List ℕ → List ℕ → List ℕ → List F
 tablesOf ms bs ns zs fs ss rs =
     record { macros = ms; bodies = bs; names = ns; sizes = zs; numbers = fs; shape = ss; releases = rs }
 
+-- Few columns are lent, so some hold more than one thing, each as a region: behind the shapes of all operator lines stand the instruments' names and then
+-- their sizes, behind the numbers of all operator lines the releases, and behind the open loops of all parts the places of the parts' names.
+abbrev pub nameColumn : List ℕ → List ℕ
+nameColumn = region (2 * instrumentsMost) 32
+
+abbrev pub sizeColumn : List ℕ → List ℕ
+sizeColumn = region instrumentsMost 66
+
+abbrev pub releaseColumn : List Float → List Float
+releaseColumn = region instrumentsMost 192
+
+abbrev pub placeColumn : List ℕ → List ℕ
+placeColumn = region (2 * partsMost) 8
+
+-- the tables in the columns
+abbrev pub tablesIn : List ℕ → List ℕ → List Float → List ℕ → Tables
+tablesIn ms bs fs ss = tablesOf ms bs (nameColumn ss) (sizeColumn ss) fs ss (releaseColumn fs)
+
 module _ (s places : List ℕ) (r : Sofar) (fs : List Float) (is ls : List ℕ) (t : Tables) where
   -- what has been read so far
   unfoldable pub readIn : Read
@@ -127,8 +146,8 @@ pub record Tabled (r : Sofar) (t : Tables) : Type 0 where
   pub bodies-length : length (t .bodies) ≡ 2 * macrosMost
   pub names-length : length (t .names) ≡ 2 * instrumentsMost
   pub sizes-length : length (t .sizes) ≡ instrumentsMost
-  pub numbers-length : length (t .numbers) ≡ 6 * operatorsMost * instrumentsMost
-  pub shape-length : length (t .shape) ≡ 2 * operatorsMost * instrumentsMost
+  pub numbers-length : length (t .numbers) ≡ 6 * operatorsMost * instrumentsMost + instrumentsMost
+  pub shape-length : length (t .shape) ≡ 2 * operatorsMost * instrumentsMost + 2 * instrumentsMost + instrumentsMost
   pub releases-length : length (t .releases) ≡ instrumentsMost
   pub releases : take (r .instruments + 1) (t .releases) ≡ map releaseOf (linesFrom (t .sizes) (t .numbers) (t .shape) 0 (r .instruments + 1))
 
@@ -160,8 +179,20 @@ pub record Blocked (s : List ℕ) (at i : ℕ) (b : Block) (fs : List Float) (ss
   pub few : b .count ≤ operatorsMost
   pub onward : at ≤ b .next
   pub inside : at ≤ length s → b .next ≤ length s
-  pub numbers : (j : ℕ) → (j ≡ i → ⊥) → region (6 * operatorsMost) j fs′ ≡ region (6 * operatorsMost) j fs
-  pub shape : (j : ℕ) → (j ≡ i → ⊥) → region (2 * operatorsMost) j ss′ ≡ region (2 * operatorsMost) j ss
+  pub numbers : (j : ℕ) → j < instrumentsMost → (j ≡ i → ⊥) → region (6 * operatorsMost) j fs′ ≡ region (6 * operatorsMost) j fs
+  pub shape : (j : ℕ) → j < instrumentsMost → (j ≡ i → ⊥) → region (2 * operatorsMost) j ss′ ≡ region (2 * operatorsMost) j ss
+
+-- what stands beside operator lines in their columns is as before
+abbrev pub Aside : List ℕ → List ℕ → List Float → List Float → Type 0
+Aside ss ss′ fs fs′ = (nameColumn ss′ ≡ nameColumn ss) × ((sizeColumn ss′ ≡ sizeColumn ss) × (releaseColumn fs′ ≡ releaseColumn fs))
+
+-- the same kept as the instrument i: with their number among the sizes and their release among the releases, and the names as before
+pub record Kept (s : List ℕ) (at i : ℕ) (b : Block) (fs : List Float) (ss : List ℕ) (fs′ : List Float) (ss′ : List ℕ) : Type 0 where
+  pub block : Blocked s at i b fs ss fs′ ss′
+  pub names : nameColumn ss′ ≡ nameColumn ss
+  pub sizes : b .refusal ≡ 0 → sizeColumn ss′ ≡ set (sizeColumn ss) i (b .count)
+  pub releases : b .refusal ≡ 0
+      → releaseColumn fs′ ≡ set (releaseColumn fs) i (releaseOf (linesHeld (b .count) (region (6 * operatorsMost) i fs′) (region (2 * operatorsMost) i ss′)))
 
 -- ---- changes of a reading
 

@@ -1,13 +1,15 @@
 -- What the pieces of a part's line promise: the state that a part is read on from, the reading with the state that has come of it, a reading with one more
 -- part, and the regions of the columns behind a body. Private contracts cite this, and no public one. Assumes nothing.
 use mathlib.Core.Path.{_≡_}
+use mathlib.Core.Bool.{true, false}
 use mathlib.Core.List.{List, [], _∷_}
 use mathlib.Core.Option.{some}
 use Prim.Native.Nat.{ℕ, zero, suc, _+_, _*_, _-_, _≤_, _<_}
+use lib.Dec.{ltb}
 use lib.ListN.{length, getD, set}
 use lib.Ieee.{Float}
 use Rattle.lines.specs.Names.{placeAmong}
-use Rattle.sheet.specs.Capacities.{notesMost, loopsMost}
+use Rattle.sheet.specs.Capacities.{partsMost, notesMost, loopsMost}
 use Rattle.sheet.specs.Refusals.{Outcome}
 use Rattle.environment.specs.Environment.{atTheStart}
 use Rattle.part.specs.declared.state.State.{State}
@@ -17,7 +19,7 @@ use Rattle.part.specs.Reading.{stateAfter, Held}
 use Rattle.tables.specs.Tables.{withEntry}
 use Rattle.layout.specs.Regions.{region}
 use Rattle.parser.specs.declared.sofar.Sofar.{Sofar}
-use Rattle.parser.specs.Columns.{partsFrom, playedIn, Fits, Came, refusedAt}
+use Rattle.parser.specs.Columns.{placeColumn, partsFrom, playedIn, Fits, Came, refusedAt, passedTo}
 use Rattle.meaning.specs.Parts.{NamedPart, linePlayed}
 
 -- ---- a part's state
@@ -78,9 +80,19 @@ withNew r =
     }
 
 -- the reading with the part k in it, which is there or is one more
-pub record WithPart (k from end : ℕ) (places : List ℕ) (r : Sofar) (more : List ℕ) (q : Sofar) : Type 0 where
-  pub known : k < r .parts → (more ≡ places) × (q ≡ r)
-  pub new : r .parts ≤ k → (more ≡ withEntry (r .parts) from end places) × (q ≡ withNew r)
+unfoldable pub withPart : Sofar → ℕ → Sofar
+withPart r k = elim (ltb k (r .parts)) [ true ↦ r | false ↦ withNew r ]
+
+-- the name of the part k has its places in the column, where n parts were there before
+pub record NamedAt (k n from end : ℕ) (ls ls′ : List ℕ) : Type 0 where
+  pub known : k < n → ls′ ≡ ls
+  pub new : n ≤ k → placeColumn ls′ ≡ withEntry n from end (placeColumn ls)
+  pub loops : (j : ℕ) → j < partsMost → region (2 * loopsMost) j ls′ ≡ region (2 * loopsMost) j ls
+
+-- a reading that goes on behind the line of another, or has its refusal
+pub record Passed (next : ℕ) (q t : Sofar) : Type 0 where
+  pub on : q .refusal ≡ 0 → t ≡ passedTo q (q .macros) (q .instruments) (q .line + 1) next
+  pub ended : (q .refusal ≡ 0 → ⊥) → (t .refusal ≡ q .refusal) × (t .line ≡ q .line)
 
 -- ---- a body
 
@@ -121,3 +133,10 @@ abbrev pub LineCame : Book → List ℕ → ℕ → Sofar → Sofar → List Flo
 LineCame book text k r q fs is ls gs js ms =
     (s places name : List ℕ) → Fits places r fs is ls → k ≡ placeAmong name (calledAs (partsFrom s places r fs is ls 0 (r .parts)))
     → Came (linePlayed book (r .start) (r .line) (some (record { name = name; body = text })) (playedIn s places r fs is ls)) s places r q gs js ms
+
+-- the reading behind the line of the part k, which was there or is new: it goes on from what has come of the line
+pub record LinePassed (book : Book) (text : List ℕ) (k next : ℕ) (r t : Sofar) (fs : List Float) (is ls : List ℕ) (gs : List Float) (js ms : List ℕ) : Type 0 where
+  pub left : Sofar
+  pub came : LineCame book text k (withPart r k) left fs is ls gs js ms
+  pub passed : Passed next left t
+  pub places : placeColumn ms ≡ placeColumn ls

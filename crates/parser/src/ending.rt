@@ -12,7 +12,7 @@ ghost use Rattle.layout.specs.Layout.{linesFrom};
 ghost use Rattle.parser.specs.declared.sofar.Sofar.{Sofar};
 ghost use Rattle.meaning.specs.Layout.{laidOut, sheetOf};
 ghost use Rattle.meaning.specs.Sheets.{ended, anyOpen};
-ghost use Rattle.parser.specs.Columns.{Tables, tablesOf, partsFrom, readIn, readOutcome, Fits, Tabled};
+ghost use Rattle.parser.specs.Columns.{Tables, tablesOf, tablesIn, partsFrom, readIn, readOutcome, Fits, Tabled};
 use crate::sofar::Sofar;
 use layout::instruments::table_of;
 use layout::parts::counts_of;
@@ -118,21 +118,21 @@ pub(crate) fn finished(
     bytes: &[u8],
     numbers: &[f32],
     shape: &[usize],
-    sizes: &[usize],
-    releases: &[f32],
     q: Sofar,
     rate: u32,
 ) -> Reading
-    requires { ⌜ (q .refusal ≡ 0 → q .instruments + 1 ≤ length (now releases)) ⌝ }
-    ensures { λ r. ⌜ ((s places ls ms bs ns : List ℕ) → (q .refusal ≡ 0 → Fits places q (now (floats .entry)) (now (bytes .entry)) ls) → (q .refusal ≡ 0 → Tabled q (tablesOf ms bs ns (now (sizes .entry)) (now (numbers .entry)) (now (shape .entry)) (now (releases .entry)))) → r ≡ laidOut (readOutcome s places q (now (floats .entry)) (now (bytes .entry)) ls (tablesOf ms bs ns (now (sizes .entry)) (now (numbers .entry)) (now (shape .entry)) (now (releases .entry))) then (λ x. ended rate x))) ⌝ }
+    requires { ⌜ (q .refusal ≡ 0 → (q .instruments + 1 ≤ 32) × ((length (now numbers) ≡ 6176) × (length (now shape) ≡ 2144))) ⌝ }
+    ensures { λ r. ⌜ ((s places ls ms bs : List ℕ) → (q .refusal ≡ 0 → Fits places q (now (floats .entry)) (now (bytes .entry)) ls) → (q .refusal ≡ 0 → Tabled q (tablesIn ms bs (now (numbers .entry)) (now (shape .entry)))) → r ≡ laidOut (readOutcome s places q (now (floats .entry)) (now (bytes .entry)) ls (tablesIn ms bs (now (numbers .entry)) (now (shape .entry))) then (λ x. ended rate x))) ⌝ }
 {
     if q.refusal != 0 {
         return refused_reading(q.refusal, q.line);
     }
     let instruments = q.instruments + 1;
-    let number = end_refusal(floats, bytes, &releases[..instruments], q, rate);
+    let releases = &numbers[6144..6144 + instruments];
+    let number = end_refusal(floats, bytes, releases, q, rate);
     if number != 0 {
         return refused_reading(number, 0);
     }
+    let sizes = &shape[2112..2144];
     laid(floats, bytes, numbers, shape, sizes, instruments, q)
 }

@@ -3,7 +3,7 @@
 ghost use mathlib.Core.Path.{_≡_};
 ghost use mathlib.Core.List.{List, [], _∷_};
 ghost use Prim.Native.Nat.{ℕ, _+_, _*_, _≤_, _<_};
-ghost use lib.ListN.{length, take, drop, set};
+ghost use lib.ListN.{length, take, drop};
 ghost use lib.Ieee.{Float};
 ghost use Rattle.lines.specs.Lines.{linesOf, lineOf};
 ghost use Rattle.instrument.specs.Lines.{releaseOf};
@@ -12,7 +12,7 @@ ghost use Rattle.commands.specs.Commands.{linesHeld};
 ghost use Rattle.layout.specs.Layout.{linesFrom};
 ghost use Rattle.layout.specs.Regions.{region};
 ghost use Rattle.meaning.specs.Sheets.{plain, headerRead};
-ghost use Rattle.parser.specs.Columns.{tablesOf, readIn, Fits, Tabled, Begins, Goes, Blocked};
+ghost use Rattle.parser.specs.Columns.{tablesIn, sizeColumn, releaseColumn, readIn, Fits, Tabled, Begins, Goes, Blocked, Aside, Kept};
 use crate::sofar::Sofar;
 use crate::steps::refused;
 use blocks::block::Block;
@@ -22,8 +22,9 @@ use tables::table::header_line;
 
 // The operator lines from place `at` on, in the regions of the instrument i.
 fn block_at(source: &[u8], at: usize, numbers: &mut [f32], shape: &mut [usize], i: usize) -> Block
-    requires { ⌜ (i < 32) × ((length (now numbers) ≡ 6144) × (length (now shape) ≡ 2048)) ⌝ }
-    ensures { λ b. ⌜ Blocked (now (source .entry)) at i b (now (numbers .entry)) (now (shape .entry)) (now (numbers .exit)) (now (shape .exit)) ⌝ }
+    requires { ⌜ (i < 32) × ((length (now numbers) ≡ 6176) × (length (now shape) ≡ 2144)) ⌝ }
+    ensures block { λ b. ⌜ Blocked (now (source .entry)) at i b (now (numbers .entry)) (now (shape .entry)) (now (numbers .exit)) (now (shape .exit)) ⌝ }
+    ensures aside { λ _. ⌜ Aside (now (shape .entry)) (now (shape .exit)) (now (numbers .entry)) (now (numbers .exit)) ⌝ }
 {
     read_block(
         source,
@@ -35,7 +36,7 @@ fn block_at(source: &[u8], at: usize, numbers: &mut [f32], shape: &mut [usize], 
 
 // The release of the instrument i, which has `size` operator lines.
 fn release_at(numbers: &[f32], shape: &[usize], i: usize, size: usize) -> f32
-    requires { ⌜ (i < 32) × ((length (now numbers) ≡ 6144) × (length (now shape) ≡ 2048)) ⌝ }
+    requires { ⌜ (i < 32) × ((length (now numbers) ≡ 6176) × (length (now shape) ≡ 2144)) ⌝ }
     ensures { λ x. ⌜ x ≡ releaseOf (linesHeld size (region 192 i (now (numbers .entry))) (region 64 i (now (shape .entry)))) ⌝ }
 {
     release_held(
@@ -46,41 +47,27 @@ fn release_at(numbers: &[f32], shape: &[usize], i: usize, size: usize) -> f32
 }
 
 // The operator lines from place `at` on, kept as the instrument i with their number and its release.
-fn kept(
-    source: &[u8],
-    at: usize,
-    sizes: &mut [usize],
-    numbers: &mut [f32],
-    shape: &mut [usize],
-    releases: &mut [f32],
-    i: usize,
-) -> Block
-    requires { ⌜ (i < 32) × ((length (now sizes) ≡ 32) × ((length (now numbers) ≡ 6144) × ((length (now shape) ≡ 2048) × (length (now releases) ≡ 32)))) ⌝ }
-    ensures block { λ b. ⌜ Blocked (now (source .entry)) at i b (now (numbers .entry)) (now (shape .entry)) (now (numbers .exit)) (now (shape .exit)) ⌝ }
-    ensures sizes { λ b. ⌜ (b .refusal ≡ 0 → now (sizes .exit) ≡ set (now (sizes .entry)) i (b .count)) ⌝ }
-    ensures releases { λ b. ⌜ (b .refusal ≡ 0 → now (releases .exit) ≡ set (now (releases .entry)) i (releaseOf (linesHeld (b .count) (region 192 i (now (numbers .exit))) (region 64 i (now (shape .exit)))))) ⌝ }
+fn kept(source: &[u8], at: usize, numbers: &mut [f32], shape: &mut [usize], i: usize) -> Block
+    requires { ⌜ (i < 32) × ((length (now numbers) ≡ 6176) × (length (now shape) ≡ 2144)) ⌝ }
+    ensures { λ b. ⌜ Kept (now (source .entry)) at i b (now (numbers .entry)) (now (shape .entry)) (now (numbers .exit)) (now (shape .exit)) ⌝ }
 {
     let b = block_at(source, at, numbers, shape, i);
     if b.refusal != 0 {
         return b;
     }
-    sizes[i] = b.count;
-    releases[i] = release_at(numbers, shape, i, b.count);
+    let release = release_at(numbers, shape, i, b.count);
+    shape[2112 + i] = b.count;
+    numbers[6144 + i] = release;
     b
 }
 
 // The default instrument, `1 1 0 0 1 0`, read as any other.
-pub(crate) fn default_instrument(
-    sizes: &mut [usize],
-    numbers: &mut [f32],
-    shape: &mut [usize],
-    releases: &mut [f32],
-)
-    requires { ⌜ (length (now sizes) ≡ 32) × ((length (now numbers) ≡ 6144) × ((length (now shape) ≡ 2048) × (length (now releases) ≡ 32))) ⌝ }
-    ensures lines { λ _. ⌜ linesFrom (now (sizes .exit)) (now (numbers .exit)) (now (shape .exit)) 0 1 ≡ plain ∷ [] ⌝ }
-    ensures releases { λ _. ⌜ take 1 (now (releases .exit)) ≡ releaseOf plain ∷ [] ⌝ }
+pub(crate) fn default_instrument(numbers: &mut [f32], shape: &mut [usize])
+    requires { ⌜ (length (now numbers) ≡ 6176) × (length (now shape) ≡ 2144) ⌝ }
+    ensures lines { λ _. ⌜ linesFrom (sizeColumn (now (shape .exit))) (now (numbers .exit)) (now (shape .exit)) 0 1 ≡ plain ∷ [] ⌝ }
+    ensures releases { λ _. ⌜ take 1 (releaseColumn (now (numbers .exit))) ≡ releaseOf plain ∷ [] ⌝ }
 {
-    kept(b"1 1 0 0 1 0", 0, sizes, numbers, shape, releases, 0);
+    kept(b"1 1 0 0 1 0", 0, numbers, shape, 0);
 }
 
 // A header's line, and the operator lines below it.
@@ -88,22 +75,19 @@ pub(crate) fn header_step(
     source: &[u8],
     end: usize,
     next: usize,
-    names: &mut [usize],
-    sizes: &mut [usize],
     numbers: &mut [f32],
     shape: &mut [usize],
-    releases: &mut [f32],
     r: Sofar,
 ) -> Sofar
-    requires { ⌜ Begins (now source) r end next × ((r .instruments + 1 ≤ 32) × ((length (now names) ≡ 64) × ((length (now sizes) ≡ 32) × ((length (now numbers) ≡ 6144) × ((length (now shape) ≡ 2048) × (length (now releases) ≡ 32)))))) ⌝ }
-    ensures { λ q. ⌜ ((places : List ℕ) (fs : List Float) (is ls ms bs : List ℕ) → Fits places r fs is ls → Tabled r (tablesOf ms bs (now (names .entry)) (now (sizes .entry)) (now (numbers .entry)) (now (shape .entry)) (now (releases .entry))) → Goes (headerRead (r .line) (lineOf (drop (r .at) (now (source .entry)))) (linesOf (drop next (now (source .entry)))) (readIn (now (source .entry)) places r fs is ls (tablesOf ms bs (now (names .entry)) (now (sizes .entry)) (now (numbers .entry)) (now (shape .entry)) (now (releases .entry))))) (1 + length (operatorLines (linesOf (drop next (now (source .entry)))))) (now (source .entry)) places r q fs is ls (tablesOf ms bs (now (names .exit)) (now (sizes .exit)) (now (numbers .exit)) (now (shape .exit)) (now (releases .exit)))) ⌝ }
+    requires { ⌜ Begins (now source) r end next × ((r .instruments + 1 ≤ 32) × ((length (now numbers) ≡ 6176) × (length (now shape) ≡ 2144))) ⌝ }
+    ensures { λ q. ⌜ ((places : List ℕ) (fs : List Float) (is ls ms bs : List ℕ) → Fits places r fs is ls → Tabled r (tablesIn ms bs (now (numbers .entry)) (now (shape .entry))) → Goes (headerRead (r .line) (lineOf (drop (r .at) (now (source .entry)))) (linesOf (drop next (now (source .entry)))) (readIn (now (source .entry)) places r fs is ls (tablesIn ms bs (now (numbers .entry)) (now (shape .entry))))) (1 + length (operatorLines (linesOf (drop next (now (source .entry)))))) (now (source .entry)) places r q fs is ls (tablesIn ms bs (now (numbers .exit)) (now (shape .exit)))) ⌝ }
 {
     let i = r.instruments + 1;
-    let number = header_line(source, r.at, end, names, r.instruments);
+    let number = header_line(source, r.at, end, &mut shape[2048..2112], r.instruments);
     if number != 0 {
         return refused(r, number, r.line);
     }
-    let b = kept(source, next, sizes, numbers, shape, releases, i);
+    let b = kept(source, next, numbers, shape, i);
     let line = r.line + 1 + b.count;
     if b.refusal != 0 {
         return refused(r, b.refusal, line);

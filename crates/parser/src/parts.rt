@@ -3,87 +3,101 @@
 ghost use mathlib.Core.Path.{_≡_};
 ghost use mathlib.Core.List.{List};
 ghost use Prim.Native.Nat.{ℕ, _+_, _*_, _≤_, _<_};
-ghost use lib.ListN.{length, take, getD};
-ghost use Rattle.lines.specs.Names.{between, namesIn, placeAmong};
+ghost use lib.ListN.{length, take, drop, getD};
+ghost use Rattle.lines.specs.Lines.{lineOf};
+ghost use Rattle.lines.specs.Names.{namesIn, placeAmong};
 ghost use Rattle.lines.specs.Tokens.{namedOf};
 ghost use Rattle.part.specs.Columns.{bookIn};
-ghost use Rattle.meaning.specs.Parts.{linePlayed};
-ghost use Rattle.parser.specs.Columns.{playedIn, Fits, Came};
-ghost use Rattle.parser.specs.PartSteps.{stateOf, storedAs, WithPart, ReadyAt, bodyAt, BodyCame, LineCame};
+ghost use Rattle.meaning.specs.Sheets.{partRead};
+ghost use Rattle.parser.specs.Columns.{nameColumn, releaseColumn, placeColumn, tablesIn, readIn, Fits, Tabled, Begins, Goes};
+ghost use Rattle.parser.specs.PartSteps.{stateOf, storedAs, withPart, NamedAt, Passed, ReadyAt, bodyAt, BodyCame, LinePassed};
 use crate::sofar::Sofar;
+use crate::steps::passed;
+use crate::steps::refused;
 use lines::names::name_at;
 use lines::names::place_named;
 use part::part::read_part;
 use part::state::State;
 
 // The place of a name among those of the first `parts` parts, `parts` where it is new.
-fn place_of(source: &[u8], places: &[usize], parts: usize, name: &[u8]) -> usize
-    requires { ⌜ 2 * parts ≤ length (now places) ⌝ }
-    ensures { λ r. ⌜ r ≡ placeAmong (now (name .entry)) (namesIn (now (source .entry)) (take (2 * parts) (now (places .entry)))) ⌝ }
+fn place_of(source: &[u8], loops: &[usize], parts: usize, name: &[u8]) -> usize
+    requires { ⌜ (parts ≤ 16) × (length (now loops) ≡ 288) ⌝ }
+    ensures { λ r. ⌜ r ≡ placeAmong (now (name .entry)) (namesIn (now (source .entry)) (take (2 * parts) (placeColumn (now (loops .entry))))) ⌝ }
 {
-    let at = 2 * parts;
-    let known = &places[..at];
+    let at = 256 + 2 * parts;
+    let known = &loops[256..at];
     place_named(source, known, name)
 }
 
-// The reading with the part k in it: the same, or with one more part, whose name stands from `from` to `end` of the source.
-fn with_part(places: &mut [usize], r: Sofar, k: usize, from: usize, end: usize) -> Sofar
-    requires { ⌜ (k < 16) × (length (now places) ≡ 32) ⌝ }
-    ensures { λ q. ⌜ WithPart k from end (now (places .entry)) r (now (places .exit)) q ⌝ }
+// The places of the name of the part k, from `from` to `end` of the source, where it is not one of the `parts` parts that are there.
+fn named(loops: &mut [usize], k: usize, parts: usize, from: usize, end: usize)
+    requires { ⌜ (k < 16) × (length (now loops) ≡ 288) ⌝ }
+    ensures { λ _. ⌜ NamedAt k parts from end (now (loops .entry)) (now (loops .exit)) ⌝ }
 {
-    let n = r.parts;
-    let start = r.start;
-    if k < n {
-        return r;
+    if k < parts {
+        return;
     }
-    places[2 * n] = from;
-    places[2 * n + 1] = end;
-    let mut q = r;
-    q.envs[n] = start;
-    q.counts[n] = 0;
-    q.depths[n] = 0;
-    q.parts = n + 1;
-    q
+    let at = 256 + 2 * parts;
+    loops[at] = from;
+    loops[at + 1] = end;
 }
 
-// The state that the part k is read on from.
+// The state that the part k is read on from, which is there or new.
 fn state_of(r: Sofar, k: usize) -> State
-    requires { ⌜ (k < length (r .envs)) × ((k < 16) × (getD (r .counts) k 0 ≤ r .all)) ⌝ }
-    ensures { λ st. ⌜ st ≡ stateOf r k ⌝ }
+    requires { ⌜ (k ≤ r .parts) × ((k < 16) × ((length (r .envs) ≡ 16) × ((length (r .counts) ≡ 16) × ((length (r .depths) ≡ 16) × (k < r .parts → getD (r .counts) k 0 ≤ r .all))))) ⌝ }
+    ensures { λ st. ⌜ st ≡ stateOf (withPart r k) k ⌝ }
 {
+    let steps = r.steps;
+    let all = r.all;
+    if k >= r.parts {
+        let start = r.start;
+        return State {
+            env: start,
+            count: 0,
+            others: all,
+            depth: 0,
+            steps,
+            refusal: 0,
+            line: 0,
+        };
+    }
     let env = r.envs[k];
     let count = r.counts[k];
-    let others = r.all - count;
     let depth = r.depths[k];
     State {
         env,
         count,
-        others,
+        others: all - count,
         depth,
-        steps: r.steps,
+        steps,
         refusal: 0,
         line: 0,
     }
 }
 
-// The reading with this state for the part k, or with the state's refusal.
-fn stored(r: Sofar, k: usize, st: State) -> Sofar
-    requires { ⌜ (k < 16) × (st .refusal ≡ 0 → st .others + st .count ≤ 2048) ⌝ }
-    ensures { λ q. ⌜ q ≡ storedAs r k st ⌝ }
+// The reading behind the line with this state for the part k, or with the state's refusal.
+fn stored(r: Sofar, k: usize, st: State, next: usize) -> Sofar
+    requires { ⌜ (k ≤ r .parts) × ((k < 16) × ((r .refusal ≡ 0) × ((r .line ≤ 2000000) × (st .refusal ≡ 0 → st .others + st .count ≤ 2048)))) ⌝ }
+    ensures { λ q. ⌜ Passed next (storedAs (withPart r k) k st) q ⌝ }
 {
-    let refusal = st.refusal;
-    let env = st.env;
     let mut q = r;
-    if refusal != 0 {
-        q.refusal = refusal;
+    if st.refusal != 0 {
+        q.refusal = st.refusal;
         q.line = st.line;
         return q;
     }
+    let env = st.env;
     q.envs[k] = env;
     q.counts[k] = st.count;
     q.depths[k] = st.depth;
     q.all = st.others + st.count;
     q.steps = st.steps;
+    q.line = r.line + 1;
+    q.at = next;
+    if k < r.parts {
+        return q;
+    }
+    q.parts = k + 1;
     q
 }
 
@@ -103,8 +117,9 @@ fn body_at(
     line: usize,
     rate: u32,
 ) -> State
-    requires { ⌜ (k < 16) × ((length (now floats) ≡ 98304) × ((length (now bytes) ≡ 32768) × ((length (now loops) ≡ 256) × ((length (now releases) ≤ 32) × ReadyAt k st (now floats) (now bytes) (now loops))))) ⌝ }
-    ensures { λ q. ⌜ BodyCame (bodyAt (bookIn rate (now (source .entry)) (now (macros .entry)) (now (bodies .entry)) (now (names .entry)) (now (releases .entry))) line (now (text .entry)) k st (now (floats .entry)) (now (bytes .entry)) (now (loops .entry))) k st q (now (floats .entry)) (now (bytes .entry)) (now (loops .entry)) (now (floats .exit)) (now (bytes .exit)) (now (loops .exit)) ⌝ }
+    requires { ⌜ (k < 16) × ((length (now floats) ≡ 98304) × ((length (now bytes) ≡ 32768) × ((length (now loops) ≡ 288) × ((length (now releases) ≤ 32) × ReadyAt k st (now floats) (now bytes) (now loops))))) ⌝ }
+    ensures body { λ q. ⌜ BodyCame (bodyAt (bookIn rate (now (source .entry)) (now (macros .entry)) (now (bodies .entry)) (now (names .entry)) (now (releases .entry))) line (now (text .entry)) k st (now (floats .entry)) (now (bytes .entry)) (now (loops .entry))) k st q (now (floats .entry)) (now (bytes .entry)) (now (loops .entry)) (now (floats .exit)) (now (bytes .exit)) (now (loops .exit)) ⌝ }
+    ensures places { λ _. ⌜ placeColumn (now (loops .exit)) ≡ placeColumn (now (loops .entry)) ⌝ }
 {
     read_part(
         source,
@@ -122,31 +137,35 @@ fn body_at(
     )
 }
 
-// The line of the part k, which is there.
+// The line of the part k, whose name has its places, with the tables as far as they are filled.
 fn played(
     source: &[u8],
     macros: &[usize],
     bodies: &[usize],
-    names: &[usize],
-    releases: &[f32],
+    numbers: &[f32],
+    shape: &[usize],
     text: &[u8],
     floats: &mut [f32],
     bytes: &mut [u8],
     loops: &mut [usize],
     k: usize,
+    next: usize,
     r: Sofar,
     rate: u32,
 ) -> Sofar
-    requires { ⌜ (k < r .parts) × ((r .refusal ≡ 0) × ((length (now releases) ≤ 32) × ((places : List ℕ) × Fits places r (now floats) (now bytes) (now loops)))) ⌝ }
-    ensures { λ q. ⌜ LineCame (bookIn rate (now (source .entry)) (now (macros .entry)) (now (bodies .entry)) (now (names .entry)) (now (releases .entry))) (now (text .entry)) k r q (now (floats .entry)) (now (bytes .entry)) (now (loops .entry)) (now (floats .exit)) (now (bytes .exit)) (now (loops .exit)) ⌝ }
+    requires { ⌜ (k ≤ r .parts) × ((r .refusal ≡ 0) × ((r .line ≤ 2000000) × ((k < withPart r k .parts) × (Fits (placeColumn (now loops)) (withPart r k) (now floats) (now bytes) (now loops) × Tabled r (tablesIn (now macros) (now bodies) (now numbers) (now shape)))))) ⌝ }
+    ensures { λ t. ⌜ LinePassed (bookIn rate (now (source .entry)) (take (2 * r .macros) (now (macros .entry))) (take (2 * r .macros) (now (bodies .entry))) (take (2 * r .instruments) (nameColumn (now (shape .entry)))) (take (r .instruments + 1) (releaseColumn (now (numbers .entry))))) (now (text .entry)) k next r t (now (floats .entry)) (now (bytes .entry)) (now (loops .entry)) (now (floats .exit)) (now (bytes .exit)) (now (loops .exit)) ⌝ }
 {
+    let m = 2 * r.macros;
+    let n = 2 * r.instruments;
+    let i = r.instruments + 1;
     let before = state_of(r, k);
     let after = body_at(
         source,
-        macros,
-        bodies,
-        names,
-        releases,
+        &macros[..m],
+        &bodies[..m],
+        &shape[2048..2048 + n],
+        &numbers[6144..6144 + i],
         text,
         floats,
         bytes,
@@ -156,57 +175,57 @@ fn played(
         r.line,
         rate,
     );
-    stored(r, k, after)
+    stored(r, k, after, next)
 }
 
-// The line from `from` to `end` of the source, with the macros, the instruments' names and the releases that are known so far.
+// The line from the reading's place to `end` of the source.
 pub(crate) fn part_step(
     source: &[u8],
-    from: usize,
     end: usize,
+    next: usize,
     macros: &[usize],
     bodies: &[usize],
-    names: &[usize],
-    releases: &[f32],
-    places: &mut [usize],
+    numbers: &[f32],
+    shape: &[usize],
     floats: &mut [f32],
     bytes: &mut [u8],
     loops: &mut [usize],
     r: Sofar,
     rate: u32,
 ) -> Sofar
-    requires { ⌜ Fits (now places) r (now floats) (now bytes) (now loops) × ((r .refusal ≡ 0) × ((length (now releases) ≤ 32) × ((from ≤ end) × (end ≤ length (now source))))) ⌝ }
-    ensures { λ q. ⌜ Came (linePlayed (bookIn rate (now (source .entry)) (now (macros .entry)) (now (bodies .entry)) (now (names .entry)) (now (releases .entry))) (r .start) (r .line) (namedOf (between (now (source .entry)) from end)) (playedIn (now (source .entry)) (now (places .entry)) r (now (floats .entry)) (now (bytes .entry)) (now (loops .entry)))) (now (source .entry)) (now (places .exit)) r q (now (floats .exit)) (now (bytes .exit)) (now (loops .exit)) ⌝ }
+    requires { ⌜ Begins (now source) r end next × (Fits (placeColumn (now loops)) r (now floats) (now bytes) (now loops) × Tabled r (tablesIn (now macros) (now bodies) (now numbers) (now shape))) ⌝ }
+    ensures { λ q. ⌜ Goes (partRead rate (r .line) (namedOf (lineOf (drop (r .at) (now (source .entry))))) (readIn (now (source .entry)) (placeColumn (now (loops .entry))) r (now (floats .entry)) (now (bytes .entry)) (now (loops .entry)) (tablesIn (now (macros .entry)) (now (bodies .entry)) (now (numbers .entry)) (now (shape .entry))))) 1 (now (source .entry)) (placeColumn (now (loops .exit))) r q (now (floats .exit)) (now (bytes .exit)) (now (loops .exit)) (tablesIn (now (macros .entry)) (now (bodies .entry)) (now (numbers .entry)) (now (shape .entry))) ⌝ }
 {
+    let from = r.at;
+    let parts = r.parts;
     let l = &source[from..end];
     let place = name_at(l);
     let name_from = place.from;
     let name_end = place.end;
     let two = place.two;
     if !two {
-        return r;
+        return passed(r, next);
     }
     let name = &l[name_from..name_end];
     let text = &l[name_end..];
-    let k = place_of(source, places, r.parts, name);
+    let k = place_of(source, loops, parts, name);
     if k >= 16 {
-        let mut q = r;
-        q.refusal = 21;
-        return q;
+        return refused(r, 21, r.line);
     }
-    let more = with_part(places, r, k, from + name_from, from + name_end);
+    named(loops, k, parts, from + name_from, from + name_end);
     played(
         source,
         macros,
         bodies,
-        names,
-        releases,
+        numbers,
+        shape,
         text,
         floats,
         bytes,
         loops,
         k,
-        more,
+        next,
+        r,
         rate,
     )
 }

@@ -42,97 +42,53 @@ fn read_into(
     source: &[u8],
     macros: &mut [usize],
     bodies: &mut [usize],
-    names: &mut [usize],
-    sizes: &mut [usize],
     numbers: &mut [f32],
     shape: &mut [usize],
-    releases: &mut [f32],
-    places: &mut [usize],
     floats: &mut [f32],
     bytes: &mut [u8],
     loops: &mut [usize],
     rate: u32,
 ) -> Reading
-    requires { ⌜ (length (now source) ≤ 32768) × ((length (now macros) ≡ 128) × ((length (now bodies) ≡ 128) × ((length (now names) ≡ 64) × ((length (now sizes) ≡ 32) × ((length (now numbers) ≡ 6144) × ((length (now shape) ≡ 2048) × ((length (now releases) ≡ 32) × ((length (now places) ≡ 32) × ((length (now floats) ≡ 98304) × ((length (now bytes) ≡ 32768) × (length (now loops) ≡ 256))))))))))) ⌝ }
+    requires { ⌜ (length (now source) ≤ 32768) × ((length (now macros) ≡ 128) × ((length (now bodies) ≡ 128) × ((length (now numbers) ≡ 6176) × ((length (now shape) ≡ 2144) × ((length (now floats) ≡ 98304) × ((length (now bytes) ≡ 32768) × (length (now loops) ≡ 288))))))) ⌝ }
     ensures { λ r. ⌜ r ≡ laidOut (linesRead rate 0 1 (linesOf (now (source .entry))) nothingRead then (λ x. ended rate x)) ⌝ }
 {
-    default_instrument(sizes, numbers, shape, releases);
+    default_instrument(numbers, shape);
     let q = walk(
         source,
         macros,
         bodies,
-        names,
-        sizes,
         numbers,
         shape,
-        releases,
-        places,
         floats,
         bytes,
         loops,
         nothing_sofar(),
         rate,
     );
-    finished(floats, bytes, numbers, shape, sizes, releases, q, rate)
+    finished(floats, bytes, numbers, shape, q, rate)
 }
 
-// The same, with columns for all parts.
-fn read_parts(
-    source: &[u8],
-    macros: &mut [usize],
-    bodies: &mut [usize],
-    names: &mut [usize],
-    sizes: &mut [usize],
-    numbers: &mut [f32],
-    shape: &mut [usize],
-    releases: &mut [f32],
-    rate: u32,
-) -> Reading
-    requires { ⌜ (length (now source) ≤ 32768) × ((length (now macros) ≡ 128) × ((length (now bodies) ≡ 128) × ((length (now names) ≡ 64) × ((length (now sizes) ≡ 32) × ((length (now numbers) ≡ 6144) × ((length (now shape) ≡ 2048) × (length (now releases) ≡ 32))))))) ⌝ }
-    ensures { λ r. ⌜ r ≡ laidOut (linesRead rate 0 1 (linesOf (now (source .entry))) nothingRead then (λ x. ended rate x)) ⌝ }
-{
-    let mut places = [0usize; 32];
-    let mut floats = [0.0f32; 98304];
-    let mut bytes = [0u8; 32768];
-    let mut loops = [0usize; 256];
-    read_into(
-        source,
-        macros,
-        bodies,
-        names,
-        sizes,
-        numbers,
-        shape,
-        releases,
-        &mut places,
-        &mut floats,
-        &mut bytes,
-        &mut loops,
-        rate,
-    )
-}
-
-// The same, with tables for all macros and instruments too.
+// The same, with tables and columns of its own.
 fn read_lines(source: &[u8], rate: u32) -> Reading
     requires { ⌜ length (now source) ≤ 32768 ⌝ }
     ensures { λ r. ⌜ r ≡ laidOut (linesRead rate 0 1 (linesOf (now (source .entry))) nothingRead then (λ x. ended rate x)) ⌝ }
 {
     let mut macros = [0usize; 128];
     let mut bodies = [0usize; 128];
-    let mut names = [0usize; 64];
-    let mut sizes = [0usize; 32];
-    let mut numbers = [0.0f32; 6144];
-    let mut shape = [0usize; 2048];
-    let mut releases = [0.0f32; 32];
-    read_parts(
+    let mut numbers = [0.0f32; 6176];
+    let mut shape = [0usize; 2144];
+    let mut floats = [0.0f32; 98304];
+    let mut bytes = [0u8; 32768];
+    let mut loops = [0usize; 288];
+    read_into(
         source,
         &mut macros,
         &mut bodies,
-        &mut names,
-        &mut sizes,
         &mut numbers,
         &mut shape,
-        &mut releases,
+        &mut floats,
+        &mut bytes,
+        &mut loops,
         rate,
     )
 }

@@ -1,9 +1,13 @@
 -- `finished` keeps a line's refusal, asks for one of the end, and lays the rest out. Assumes nothing.
-use mathlib.Core.Path.{refl, sym}
+use mathlib.Core.Path.{_≡_, refl, _∙_}
+use Prim.Native.Nat.{_+_, _≤_}
 use native.Mathlib.Omega.{arith}
-use lib.Seq.{length-take-le}
-use borrow.Author.Needs.{needs}
+use lib.ListN.{length}
+use Rattle.layout.specs.Regions.{region}
+use Rattle.parser.specs.Columns.{nameColumn, releaseColumn, tablesIn}
 use Rattle.parser.proofs.Closings.{finish-refused, finish-read}
+use Rattle.parser.proofs.Pieces.{region-front}
+use borrow.Author.Needs.{needs}
 use Rattle.parser.proofs.ending.finished.Statement.{statement}
 use Rattle.parser.proofs.ending.finished.Tie as tie
 
@@ -11,19 +15,24 @@ refused-reading-requires : tie.Need-refused-reading-requires
 refused-reading-requires c κs = search needs
 
 returns : tie.Need-returns
-returns c s places ls ms bs ns w g = finish-refused _ s places _ _ _ ls _ _ (c .before .if1 .taken) (c .refused-reading .ensures)
+returns c s places ls ms bs w g = finish-refused _ s places _ _ _ ls _ _ (c .before .if1 .taken) (c .refused-reading .ensures)
 
 add-instruments : tie.Need-add-instruments
-add-instruments c =
-    let b = c .before .before .before .before .before .before .before .before .before in
-    let room = b .pre (c .before .if1 .left) in
-    let small = b .good .1 .1 .1 .1 .1 .0 .0 in
-    record { fits = omega (arith, room, small) }
+add-instruments c = omega (arith, c .before .before .before .before .before .before .before .pre (c .before .if1 .left) .0)
 
-slice-aggregate-end-refusal : tie.Need-slice-aggregate-end-refusal
-slice-aggregate-end-refusal c =
-    let b = c .before .before in
-    sym (length-take-le _ _ (b .before .before .before .before .before .before .before .before .pre (b .if1 .left)))
+add-releases : tie.Need-add-releases
+add-releases c = omega (arith, c .before .before .before .before .before .before .before .pre (c .before .if1 .left) .0)
+
+sub-releases : tie.Need-sub-releases
+sub-releases c = omega arith
+
+part-releases-start : tie.Need-part-releases-start
+part-releases-start c = let z : 6144 ≤ 6144 + (c .before .before .before .before .before .before .before .args .q .instruments + 1) = omega arith in z
+
+part-releases-end : tie.Need-part-releases-end
+part-releases-end c =
+    let room = c .before .before .before .before .before .before .before .pre (c .before .if1 .left) in
+    let z : 6144 + (c .before .before .before .before .before .before .before .args .q .instruments + 1) ≤ length (c .before .before .before .before .before .before .before .args .numbers .now) = omega (arith, room .0, room .1 .0) in z
 
 end-refusal-requires : tie.Need-end-refusal-requires
 end-refusal-requires c κs = search needs
@@ -32,19 +41,39 @@ refused-reading-requires-2 : tie.Need-refused-reading-requires-2
 refused-reading-requires-2 c κs = search needs
 
 returns-2 : tie.Need-returns-2
-returns-2 c s places ls ms bs ns w g =
-    let b = c .before .before in
-    let z = b .before .before .before .if1 .left in
-    finish-read _ s places _ _ _ ls _ _ _ z (b .end-refusal .ensures s places ls _ (w z) (g z .releases) .1 (c .before .if2 .taken)) (c .refused-reading2 .ensures)
+returns-2 c s places ls ms bs w g =
+    let e = c .before .before .end-refusal in
+    let a = c .before .before .before .before .before .before .before .before .before .before .before .args in
+    let z = c .before .before .before .before .before .if1 .left in
+    finish-read (a .rate) s places (a .q) (a .floats .now) (a .bytes .now) ls (tablesIn ms bs (a .numbers .now) (a .shape .now)) (c .refused-reading2 .result) _ z
+    (e .ensures s places ls (tablesIn ms bs (a .numbers .now) (a .shape .now)) (w z)
+    (region-front 32 192 (a .numbers .now) 6144 (a .q .instruments + 1) refl (omega (arith, g z .instruments-few)) ∙ g z .releases) .1 (c .before .if2 .taken))
+    (c .refused-reading2 .ensures)
+
+sub-sizes : tie.Need-sub-sizes
+sub-sizes c = omega arith
+
+part-sizes-start : tie.Need-part-sizes-start
+part-sizes-start c = let z : 2112 ≤ 2144 = omega arith in z
+
+part-sizes-end : tie.Need-part-sizes-end
+part-sizes-end c =
+    let room = c .before .before .before .before .before .before .before .before .before .before .pre (c .before .before .before .before .if1 .left) in
+    let z : 2144 ≤ length (c .before .before .before .before .before .before .before .before .before .before .args .shape .now) = omega (arith, room .1 .1) in z
 
 laid-requires : tie.Need-laid-requires
 laid-requires c κs = search needs
 
 returns-3 : tie.Need-returns-3
-returns-3 c s places ls ms bs ns w g =
-    let b = c .before .before in
-    let z = b .before .before .before .if1 .left in
-    finish-read _ s places _ _ _ ls _ _ _ z (b .end-refusal .ensures s places ls _ (w z) (g z .releases) .0 (c .before .if2 .left)) (c .laid .ensures s places ls ms bs ns _ (w z) (g z) refl)
+unfolding region
+returns-3 c s places ls ms bs w g =
+    let e = c .before .before .before .end-refusal in
+    let a = c .before .before .before .before .before .before .before .before .before .before .before .before .args in
+    let z = c .before .before .before .before .before .before .if1 .left in
+    finish-read (a .rate) s places (a .q) (a .floats .now) (a .bytes .now) ls (tablesIn ms bs (a .numbers .now) (a .shape .now)) (c .laid .result) _ z
+    (e .ensures s places ls (tablesIn ms bs (a .numbers .now) (a .shape .now)) (w z)
+    (region-front 32 192 (a .numbers .now) 6144 (a .q .instruments + 1) refl (omega (arith, g z .instruments-few)) ∙ g z .releases) .0 (c .before .before .if2 .left))
+    (c .laid .ensures s places ls ms bs (nameColumn (a .shape .now)) (releaseColumn (a .numbers .now)) (w z) (g z) refl)
 
 pub finished-spec : {M : Type 1} → statement M
 finished-spec =
@@ -53,9 +82,15 @@ finished-spec =
     refused-reading-requires
     returns
     add-instruments
-    slice-aggregate-end-refusal
+    add-releases
+    sub-releases
+    part-releases-start
+    part-releases-end
     end-refusal-requires
     refused-reading-requires-2
     returns-2
+    sub-sizes
+    part-sizes-start
+    part-sizes-end
     laid-requires
     returns-3)

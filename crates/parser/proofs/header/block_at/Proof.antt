@@ -1,5 +1,5 @@
 -- `block_at` lends the two regions of its instrument. Assumes nothing.
-use Rattle.parser.proofs.Blocks.{blocked}
+use Rattle.parser.proofs.Blocks.{blocked, blocked-beside}
 use borrow.Author.Needs.{needs}
 use Rattle.parser.proofs.header.block_at.Statement.{statement}
 use Rattle.parser.proofs.header.block_at.Tie as tie
@@ -59,8 +59,12 @@ returns : tie.Need-returns
 returns c =
     let b = c .before .before .before .before in
     let a = b .before .before .before .before .before .before in
-    let e = b .read-block .ensures in
-    blocked _ _ _ _ _ _ _ _ (a .pre .0) (a .pre .1 .0) (a .pre .1 .1) (b .read-block .kept .1 .1 .0) (b .read-block .kept .1 .1 .1 .0) (e .0) (e .1 .1 .0) (e .1 .1 .1 .0 .0) (e .1 .1 .1 .0 .1) (e .1 .1 .1 .1)
+    let e = b .read-block .ensures in (
+      blocked (a .args .source .now) (a .args .at) (a .args .i) (b .read-block .result) (a .args .numbers .now) (a .args .shape .now) (b .read-block .last .1 .1 .0) (b .read-block .last .1 .1 .1 .0)
+          (a .pre .0) (a .pre .1 .0) (a .pre .1 .1) (b .read-block .kept .1 .1 .0) (b .read-block .kept .1 .1 .1 .0) (e .0) (e .1 .1 .0) (e .1 .1 .1 .0 .0) (e .1 .1 .1 .0 .1) (e .1 .1 .1 .1),
+      blocked-beside (a .args .source .now) (a .args .at) (a .args .i) (b .read-block .result) (a .args .numbers .now) (a .args .shape .now) (b .read-block .last .1 .1 .0) (b .read-block .last .1 .1 .1 .0)
+          (a .pre .0) (a .pre .1 .0) (a .pre .1 .1) (b .read-block .kept .1 .1 .0) (b .read-block .kept .1 .1 .1 .0),
+    )
 
 pub block-at-spec : {M : Type 1} → statement M
 block-at-spec =

@@ -1,7 +1,7 @@
 -- `default_instrument` reads the default instrument's line as any other. Assumes nothing.
 use mathlib.Core.Path.{_∙_}
 use Rattle.text.specs.Quoted.{bytes}
-use Rattle.parser.proofs.Beginning.{default-kept}
+use Rattle.parser.proofs.Beginning.{default-columns}
 use borrow.Author.Needs.{needs}
 use Rattle.parser.proofs.header.default_instrument.Statement.{statement}
 use Rattle.parser.proofs.header.default_instrument.Tie as tie
@@ -18,20 +18,12 @@ same-length c = search needs
 same-length-2 : tie.Need-same-length-2
 same-length-2 c = search needs
 
-same-length-3 : tie.Need-same-length-3
-same-length-3 c = search needs
-
-same-length-4 : tie.Need-same-length-4
-same-length-4 c = search needs
-
 returns : tie.Need-returns
 unfolding bytes
 returns c =
-    let k = c .before .before .before .before .before .before .before .before in
-    let a = c .before .before .before .before .before .before .before .before .before .before .before .before .before .before .before .before .before .before .args in
-    let p = c .before .before .before .before .before .before .before .before .before .before .before .before .before .before .before .before .before .before .pre in
-    let e = k .kept .ensures in
-    default-kept (a .sizes .now) (a .numbers .now) (a .shape .now) _ _ _ (a .releases .now) _ _ (p .0) (k .kept .kept .1 .1 .1 .0 ∙ p .1 .0) (k .kept .kept .1 .1 .1 .1 .0 ∙ p .1 .1 .0) (p .1 .1 .1) (e .0) (e .1 .0) (e .1 .1)
+    let k = c .before .before .before .before in
+    let s = k .before .before .before .before .before .before in
+    default-columns _ (s .args .numbers .now) (s .args .shape .now) _ _ (s .pre .0) (s .pre .1) (k .kept .kept .1 .1 .0 ∙ s .pre .0) (k .kept .kept .1 .1 .1 .0 ∙ s .pre .1) (k .kept .ensures)
 
 pub default-instrument-spec : {M : Type 1} → statement M
 default-instrument-spec =
@@ -41,6 +33,4 @@ default-instrument-spec =
     kept-requires
     same-length
     same-length-2
-    same-length-3
-    same-length-4
     returns)

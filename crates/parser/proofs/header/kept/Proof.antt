@@ -1,7 +1,6 @@
 -- `kept` reads the lines, and stores their number and the release where they are accepted. Assumes nothing.
-use mathlib.Core.Path.{refl, ap}
-use lib.ListN.{set}
-use lib.Ieee.{Float}
+use native.Mathlib.Omega.{arith}
+use Rattle.parser.proofs.Blocks.{kept-refused, kept-stored}
 use borrow.Author.Needs.{needs}
 use Rattle.parser.proofs.header.kept.Statement.{statement}
 use Rattle.parser.proofs.header.kept.Tie as tie
@@ -16,22 +15,30 @@ same-length-2 : tie.Need-same-length-2
 same-length-2 c = search needs
 
 returns : tie.Need-returns
-returns c = (c .before .before .before .before .before .before .block-at .ensures, (λ z. absurd (c .if1 .taken z), λ z. absurd (c .if1 .taken z)))
-
-mul-sizes : tie.Need-mul-sizes
-mul-sizes c = search needs
-
-slice-write-sizes : tie.Need-slice-write-sizes
-slice-write-sizes c = search needs
+returns c =
+    let b = c .before .before .before .before .before .before in
+    kept-refused _ _ _ _ _ _ _ _ (b .block-at .ensures .0) (b .block-at .ensures .1) (c .if1 .taken)
 
 release-at-requires : tie.Need-release-at-requires
 release-at-requires c κs = search needs
 
-mul-releases : tie.Need-mul-releases
-mul-releases c = search needs
+add-shape : tie.Need-add-shape
+add-shape c = search needs
 
-slice-write-releases : tie.Need-slice-write-releases
-slice-write-releases c = search needs
+mul-shape : tie.Need-mul-shape
+mul-shape c = search needs
+
+slice-write-shape : tie.Need-slice-write-shape
+slice-write-shape c = search needs
+
+add-numbers : tie.Need-add-numbers
+add-numbers c = search needs
+
+mul-numbers : tie.Need-mul-numbers
+mul-numbers c = search needs
+
+slice-write-numbers : tie.Need-slice-write-numbers
+slice-write-numbers c = search needs
 
 same-length-3 : tie.Need-same-length-3
 same-length-3 c = search needs
@@ -39,17 +46,10 @@ same-length-3 c = search needs
 same-length-4 : tie.Need-same-length-4
 same-length-4 c = search needs
 
-same-length-5 : tie.Need-same-length-5
-same-length-5 c = search needs
-
-same-length-6 : tie.Need-same-length-6
-same-length-6 c = search needs
-
 returns-2 : tie.Need-returns-2
 returns-2 c =
     let b = c .before .before .before .before .before .before .before .before .before in
-    let g = b .before .before .before .before .before .before .before .before .args in
-    (b .block-at .ensures, (λ z. refl, λ z. ap (λ (x : Float). set (g .releases .now) (g .i) x) (c .release-at .ensures)))
+    kept-stored _ _ _ _ _ _ _ _ (b .block-at .ensures .0) (b .block-at .ensures .1) (b .before .before .before .before .before .before .pre .0) _ (c .release-at .ensures)
 
 pub kept-spec : {M : Type 1} → statement M
 kept-spec =
@@ -59,13 +59,13 @@ kept-spec =
     same-length
     same-length-2
     returns
-    mul-sizes
-    slice-write-sizes
     release-at-requires
-    mul-releases
-    slice-write-releases
+    add-shape
+    mul-shape
+    slice-write-shape
+    add-numbers
+    mul-numbers
+    slice-write-numbers
     same-length-3
     same-length-4
-    same-length-5
-    same-length-6
     returns-2)

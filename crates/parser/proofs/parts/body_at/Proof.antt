@@ -1,6 +1,6 @@
 -- `body_at` lends the part's regions to `read_part`. Assumes nothing.
 use Rattle.part.specs.Columns.{bookIn}
-use Rattle.parser.proofs.Playing.{body-came}
+use Rattle.parser.proofs.Playing.{body-came, body-places}
 use borrow.Author.Needs.{needs}
 use Rattle.parser.proofs.parts.body_at.Statement.{statement}
 use Rattle.parser.proofs.parts.body_at.Tie as tie
@@ -84,11 +84,13 @@ returns c =
     let a = s .args in
     let p = s .pre in
     let l = e .read-part .last .1 .1 .1 .1 .1 .1 in
-    let k = e .read-part .kept .1 .1 .1 .1 .1 .1 in
-    body-came (bookIn (a .rate) (a .source .now) (a .macros .now) (a .bodies .now) (a .names .now) (a .releases .now)) (a .line) (a .text .now) (a .st) (e .read-part .result)
-    (a .k) (a .floats .now) (a .bytes .now) (a .loops .now) (l .0) (l .1 .0) (l .1 .1 .0)
-    (p .0) (p .1 .0) (p .1 .1 .0) (p .1 .1 .1 .0) (p .1 .1 .1 .1 .0) (p .1 .1 .1 .1 .1) (k .0) (k .1 .0) (k .1 .1 .0)
-    (e .read-part .ensures)
+    let k = e .read-part .kept .1 .1 .1 .1 .1 .1 in (
+      body-came (bookIn (a .rate) (a .source .now) (a .macros .now) (a .bodies .now) (a .names .now) (a .releases .now)) (a .line) (a .text .now) (a .st) (e .read-part .result)
+          (a .k) (a .floats .now) (a .bytes .now) (a .loops .now) (l .0) (l .1 .0) (l .1 .1 .0)
+          (p .0) (p .1 .0) (p .1 .1 .0) (p .1 .1 .1 .0) (p .1 .1 .1 .1 .0) (p .1 .1 .1 .1 .1) (k .0) (k .1 .0) (k .1 .1 .0)
+          (e .read-part .ensures),
+      body-places (a .k) (a .loops .now) (l .1 .1 .0) (p .0) (p .1 .1 .1 .0) (k .1 .1 .0),
+    )
 
 pub body-at-spec : {M : Type 1} → statement M
 body-at-spec =

@@ -1,114 +1,117 @@
 -- `part_step` meets its contract: one law for each of its ways out. Assumes nothing.
 use native.Mathlib.Omega.{arith}
 use borrow.Author.Tests.{not-true, not-false}
-use Rattle.part.specs.Columns.{bookIn}
 use Rattle.tables.proofs.MacroLines.{name-places, name-ends}
-use Rattle.parser.proofs.PartLines.{step-bare, step-full, step-known}
+use Rattle.parser.proofs.Going.{lined, line-small}
+use Rattle.parser.proofs.PartWays.{way-bare, way-full, way-asks, way-played}
 use borrow.Author.Needs.{needs}
 use Rattle.parser.proofs.parts.part_step.Statement.{statement}
 use Rattle.parser.proofs.parts.part_step.Tie as tie
 
 sub-l : tie.Need-sub-l
-sub-l c = search needs
+sub-l c = lined _ _ _ _ (c .before .before .before .before .before .before .before .before .pre .0) .from
 
 part-l-start : tie.Need-part-l-start
-part-l-start c = search needs
+part-l-start c = lined _ _ _ _ (c .before .before .before .before .before .before .before .before .pre .0) .from
 
 part-l-end : tie.Need-part-l-end
-part-l-end c = search needs
+part-l-end c = lined _ _ _ _ (c .before .before .before .before .before .before .before .before .pre .0) .within
 
 name-at-requires : tie.Need-name-at-requires
 name-at-requires c κs = search needs
 
+passed-requires : tie.Need-passed-requires
+passed-requires c κs = line-small _ _ _ _ (c .before .before .before .before .before .before .before .before .before .before .before .pre .0)
+
 returns : tie.Need-returns
 returns c =
+    let n = c .before .before in
     let s = c .before .before .before .before .before .before .before .before .before .before .before .before in
     let a = s .args in
-    step-bare (bookIn (a .rate) (a .source .now) (a .macros .now) (a .bodies .now) (a .names .now) (a .releases .now)) (a .source .now) (a .places .now) (a .from) (a .end) (a .r) (a .floats .now) (a .bytes .now) (a .loops .now)
-    (c .before .name-at .result) (c .before .name-at .ensures) (not-true _ (c .if1 .taken)) (s .pre .1 .0) (s .pre .0)
+    way-bare (a .rate) (a .source .now) (a .macros .now) (a .bodies .now) (a .numbers .now) (a .shape .now) (a .r) (a .floats .now) (a .bytes .now) (a .loops .now) (a .end) (a .next) (s .pre .0) (s .pre .1 .0) (s .pre .1 .1)
+    (n .name-at .result) (n .name-at .ensures) (not-true _ (c .before .if1 .taken)) (c .passed .result) (c .passed .ensures)
 
 sub-name : tie.Need-sub-name
 sub-name c =
-    let n = c .before in
-    let a = n .before .before .before .before .before .before .before .before .before .before .before .args in
-    name-places (a .source .now) (a .from) (a .end) _ (n .name-at .ensures) .0
+    let a = c .before .before .before .before .before .before .before .before .before .before .before .args in
+    name-places (a .source .now) (a .r .at) (a .end) _ (c .before .name-at .ensures) .0
 
 part-name-start : tie.Need-part-name-start
 part-name-start c =
-    let n = c .before in
-    let a = n .before .before .before .before .before .before .before .before .before .before .before .args in
-    name-places (a .source .now) (a .from) (a .end) _ (n .name-at .ensures) .0
+    let a = c .before .before .before .before .before .before .before .before .before .before .before .args in
+    name-places (a .source .now) (a .r .at) (a .end) _ (c .before .name-at .ensures) .0
 
 part-name-end : tie.Need-part-name-end
 part-name-end c =
-    let n = c .before in
-    let a = n .before .before .before .before .before .before .before .before .before .before .before .args in
-    name-places (a .source .now) (a .from) (a .end) _ (n .name-at .ensures) .1
+    let a = c .before .before .before .before .before .before .before .before .before .before .before .args in
+    name-places (a .source .now) (a .r .at) (a .end) _ (c .before .name-at .ensures) .1
 
 sub-text : tie.Need-sub-text
 sub-text c =
-    let n = c .before .before in
-    let a = n .before .before .before .before .before .before .before .before .before .before .before .args in
-    name-places (a .source .now) (a .from) (a .end) _ (n .name-at .ensures) .1
+    let a = c .before .before .before .before .before .before .before .before .before .before .before .before .args in
+    name-places (a .source .now) (a .r .at) (a .end) _ (c .before .before .name-at .ensures) .1
 
 part-text-start : tie.Need-part-text-start
 part-text-start c =
-    let n = c .before .before in
-    let a = n .before .before .before .before .before .before .before .before .before .before .before .args in
-    name-places (a .source .now) (a .from) (a .end) _ (n .name-at .ensures) .1
+    let a = c .before .before .before .before .before .before .before .before .before .before .before .before .args in
+    name-places (a .source .now) (a .r .at) (a .end) _ (c .before .before .name-at .ensures) .1
 
 part-text-end : tie.Need-part-text-end
 part-text-end c = search needs
 
 place-of-requires : tie.Need-place-of-requires
-place-of-requires c κs = search needs
+place-of-requires c κs =
+    let g = c .before .before .before .before .before .before .before .before .before .before .before .before .before .before .pre .1 .0 in
+    (g .few, g .loops-length)
+
+refused-requires : tie.Need-refused-requires
+refused-requires c κs = search needs
 
 same-length : tie.Need-same-length
 same-length c = search needs
 
 returns-2 : tie.Need-returns-2
 returns-2 c =
-    let p = c .before in
-    let n = p .before .before .before .before .before in
-    let s = n .before .before .before .before .before .before .before .before .before .before .before in
-    let a = s .args in
-    step-full (bookIn (a .rate) (a .source .now) (a .macros .now) (a .bodies .now) (a .names .now) (a .releases .now)) (a .source .now) (a .places .now) (a .from) (a .end) (a .r) (a .floats .now) (a .bytes .now) (a .loops .now)
-    (n .name-at .result) (n .name-at .ensures) (not-false _ (p .before .before .before .before .if1 .left)) (s .pre .0) (p .place-of .result) (p .place-of .ensures)
-    (omega (arith, c .if2 .taken))
-
-add-with-part : tie.Need-add-with-part
-add-with-part c =
+    let p = c .before .before in
     let n = c .before .before .before .before .before .before .before in
-    let s = n .before .before .before .before .before .before .before .before .before .before .before in
+    let s = c .before .before .before .before .before .before .before .before .before .before .before .before .before .before .before .before .before in
     let a = s .args in
-    let i = name-places (a .source .now) (a .from) (a .end) _ (n .name-at .ensures) .0 in
-    let j = name-ends (a .source .now) (a .from) (a .end) _ (n .name-at .ensures) (s .pre .1 .1 .1 .0) in
+    way-full (a .rate) (a .source .now) (a .macros .now) (a .bodies .now) (a .numbers .now) (a .shape .now) (a .r) (a .floats .now) (a .bytes .now) (a .loops .now) (a .end) (a .next) (s .pre .0) (s .pre .1 .0) (s .pre .1 .1)
+    (n .name-at .result) (n .name-at .ensures) (not-false _ (c .before .before .before .before .before .before .if1 .left)) (p .place-of .result) (p .place-of .ensures) (c .before .if2 .taken) (c .refused .result) (c .refused .ensures)
+
+add-named : tie.Need-add-named
+add-named c =
+    let n = c .before .before .before .before .before .before .before in
+    let s = n .before .before .before .before .before .before .before .before .before .before in
+    let a = s .args in
+    let l = lined _ _ _ _ (s .pre .0) in
+    let i = name-places (a .source .now) (a .r .at) (a .end) _ (n .name-at .ensures) .0 in
+    let j = name-ends (a .source .now) (a .r .at) (a .end) _ (n .name-at .ensures) (l .from) in
     omega (arith, i, j)
 
-add-with-part-2 : tie.Need-add-with-part-2
-add-with-part-2 c =
+add-named-2 : tie.Need-add-named-2
+add-named-2 c =
     let n = c .before .before .before .before .before .before .before in
-    let s = n .before .before .before .before .before .before .before .before .before .before .before in
+    let s = n .before .before .before .before .before .before .before .before .before .before in
     let a = s .args in
-    let i = name-places (a .source .now) (a .from) (a .end) _ (n .name-at .ensures) .0 in
-    let j = name-ends (a .source .now) (a .from) (a .end) _ (n .name-at .ensures) (s .pre .1 .1 .1 .0) in
+    let l = lined _ _ _ _ (s .pre .0) in
+    let i = name-places (a .source .now) (a .r .at) (a .end) _ (n .name-at .ensures) .0 in
+    let j = name-ends (a .source .now) (a .r .at) (a .end) _ (n .name-at .ensures) (l .from) in
     omega (arith, i, j)
 
-with-part-requires : tie.Need-with-part-requires
-with-part-requires c κs = search needs
+named-requires : tie.Need-named-requires
+named-requires c κs = (omega (arith, c .before .if2 .left), c .before .before .before .before .before .before .before .before .before .before .before .before .before .before .before .before .before .pre .1 .0 .loops-length)
 
 played-requires : tie.Need-played-requires
 played-requires c κs =
     let d = c .before .before .before .before .before in
-    let p = d .before .before .before in
-    let n = p .before .before .before .before .before in
-    let s = n .before .before .before .before .before .before .before .before .before .before .before in
+    let p = c .before .before .before .before .before .before .before .before in
+    let n = c .before .before .before .before .before .before .before .before .before .before .before .before .before in
+    let s = c .before .before .before .before .before .before .before .before .before .before .before .before .before .before .before .before .before .before .before .before .before .before .before in
     let a = s .args in
-    let f =
-    step-known (bookIn (a .rate) (a .source .now) (a .macros .now) (a .bodies .now) (a .names .now) (a .releases .now)) (a .source .now) (a .places .now) (a .from) (a .end) (a .r) (a .floats .now) (a .bytes .now) (a .loops .now)
-    (n .name-at .result) (n .name-at .ensures) (not-false _ (p .before .before .before .before .if1 .left)) (s .pre .0) (p .place-of .result) (p .place-of .ensures)
-    (omega (arith, d .before .before .if2 .left)) (s .pre .1 .1 .1 .0) (d .with-part .last .0) (d .with-part .result) (d .with-part .ensures) in
-    (f .0, (f .1 .0 (s .pre .1 .0), (s .pre .1 .1 .0, (_, f .1 .1 .0))))
+    let room = c .before .before .before .before .before .before .before .if2 .left in
+    way-asks (a .rate) (a .source .now) (a .macros .now) (a .bodies .now) (a .numbers .now) (a .shape .now) (a .r) (a .floats .now) (a .bytes .now) (a .loops .now) (a .end) (a .next) (s .pre .0) (s .pre .1 .0) (s .pre .1 .1)
+    (n .name-at .result) (n .name-at .ensures) (not-false _ (c .before .before .before .before .before .before .before .before .before .before .before .before .if1 .left)) (p .place-of .result) (p .place-of .ensures) (omega (arith, room)) (d .named .last .0) (d .named .ensures) (d .named .kept .0)
 
 same-length-2 : tie.Need-same-length-2
 same-length-2 c = search needs
@@ -119,22 +122,19 @@ same-length-3 c = search needs
 same-length-4 : tie.Need-same-length-4
 same-length-4 c = search needs
 
-same-length-5 : tie.Need-same-length-5
-same-length-5 c = search needs
-
 returns-3 : tie.Need-returns-3
 returns-3 c =
-    let e = c .before .before .before .before .before .before in
-    let d = e .before .before .before .before .before .before in
-    let p = d .before .before .before in
-    let n = p .before .before .before .before .before in
-    let s = n .before .before .before .before .before .before .before .before .before .before .before in
+    let y = c .before .before .before .before .before .before in
+    let d = c .before .before .before .before .before .before .before .before .before .before .before .before in
+    let p = c .before .before .before .before .before .before .before .before .before .before .before .before .before .before .before in
+    let n = c .before .before .before .before .before .before .before .before .before .before .before .before .before .before .before .before .before .before .before .before in
+    let s = c .before .before .before .before .before .before .before .before .before .before .before .before .before .before .before .before .before .before .before .before .before .before .before .before .before .before .before .before .before .before in
     let a = s .args in
-    let l = e .played .last .1 .1 .1 .1 .1 .1 in
-    step-known (bookIn (a .rate) (a .source .now) (a .macros .now) (a .bodies .now) (a .names .now) (a .releases .now)) (a .source .now) (a .places .now) (a .from) (a .end) (a .r) (a .floats .now) (a .bytes .now) (a .loops .now)
-    (n .name-at .result) (n .name-at .ensures) (not-false _ (p .before .before .before .before .if1 .left)) (s .pre .0) (p .place-of .result) (p .place-of .ensures)
-    (omega (arith, d .before .before .if2 .left)) (s .pre .1 .1 .1 .0) (d .with-part .last .0) (d .with-part .result) (d .with-part .ensures)
-    .1 .1 .1 (e .played .result) (l .0) (l .1 .0) (l .1 .1 .0) (e .played .ensures)
+    let room = c .before .before .before .before .before .before .before .before .before .before .before .before .before .before .if2 .left in
+    let l = y .played .last .1 .1 .1 .1 .1 .1 in
+    way-played (a .rate) (a .source .now) (a .macros .now) (a .bodies .now) (a .numbers .now) (a .shape .now) (a .r) (a .floats .now) (a .bytes .now) (a .loops .now) (a .end) (a .next) (s .pre .0) (s .pre .1 .0) (s .pre .1 .1)
+    (n .name-at .result) (n .name-at .ensures) (not-false _ (c .before .before .before .before .before .before .before .before .before .before .before .before .before .before .before .before .before .before .before .if1 .left)) (p .place-of .result) (p .place-of .ensures) (omega (arith, room)) (d .named .last .0) (d .named .ensures) (d .named .kept .0)
+    (y .played .result) (l .0) (l .1 .0) (l .1 .1 .0) (y .played .ensures)
 
 pub part-step-spec : {M : Type 1} → statement M
 part-step-spec =
@@ -144,6 +144,7 @@ part-step-spec =
     part-l-start
     part-l-end
     name-at-requires
+    passed-requires
     returns
     sub-name
     part-name-start
@@ -152,14 +153,14 @@ part-step-spec =
     part-text-start
     part-text-end
     place-of-requires
+    refused-requires
     same-length
     returns-2
-    add-with-part
-    add-with-part-2
-    with-part-requires
+    add-named
+    add-named-2
+    named-requires
     played-requires
     same-length-2
     same-length-3
     same-length-4
-    same-length-5
     returns-3)

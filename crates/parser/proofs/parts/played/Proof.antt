@@ -1,26 +1,87 @@
 -- `played` reads the body on from the part's state, and stores the state that comes of it. Assumes nothing.
-use mathlib.Core.Path.{sym, subst}
+use mathlib.Core.Path.{_≡_, refl, sym, ap₂, subst, _∙_}
+use mathlib.Core.List.{List}
+use Prim.Native.Nat.{ℕ, _+_, _*_, _≤_}
 use native.Mathlib.Omega.{arith}
+use lib.Ieee.{Float}
+use lib.Seq.{length-take-le}
+use lib.ListN.{length, take}
 use Rattle.part.specs.Columns.{bookIn}
 use Rattle.part.specs.declared.state.State.{State}
-use Rattle.parser.specs.PartSteps.{ReadyAt}
-use Rattle.parser.proofs.Playing.{own-few, state-ready, line-whole}
+use Rattle.parser.specs.Columns.{nameColumn, releaseColumn}
+use Rattle.parser.specs.PartSteps.{withPart, ReadyAt, bodyAt, BodyCame}
+use Rattle.parser.proofs.Pieces.{region-front}
+use Rattle.parser.proofs.Playing.{state-ready}
+use Rattle.parser.proofs.PartReads.{few-as, body-as}
+use Rattle.parser.proofs.Storing.{state-asks, line-passes}
 use borrow.Author.Needs.{needs}
 use Rattle.parser.proofs.parts.played.Statement.{statement}
 use Rattle.parser.proofs.parts.played.Tie as tie
 
+mul-m : tie.Need-mul-m
+mul-m c = omega (arith, c .before .before .before .before .before .before .before .before .before .before .pre .1 .1 .1 .1 .1 .macros-few)
+
+mul-n : tie.Need-mul-n
+mul-n c = omega (arith, c .before .before .before .before .before .before .before .before .before .before .before .pre .1 .1 .1 .1 .1 .instruments-few)
+
+add-i : tie.Need-add-i
+add-i c = omega (arith, c .before .before .before .before .before .before .before .before .before .before .before .before .pre .1 .1 .1 .1 .1 .instruments-few)
+
 state-of-requires : tie.Need-state-of-requires
 state-of-requires c κs =
-    let p = c .before .before .before .before .before .before .before .before .before .pre in
-    let g = p .1 .1 .1 .1 in
-    (omega (arith, p .0, g .few, g .envs-length), (omega (arith, p .0, g .few), own-few _ _ _ _ _ g _ (p .0)))
+    let s = c .before .before .before .before .before .before .before .before .before .before .before .before in
+    let p = s .pre in
+    state-asks (s .args .r) (s .args .k) _ _ _ _ (p .0) (p .1 .1 .1 .0) (p .1 .1 .1 .1 .0)
+
+slice-aggregate-body-at : tie.Need-slice-aggregate-body-at
+slice-aggregate-body-at c =
+    let g = c .before .before .before .before .before .before .before .before .before .before .before .before .before .before .pre .1 .1 .1 .1 .1 in
+    sym (length-take-le _ _ (omega (arith, g .macros-few, g .macros-length)))
+
+slice-aggregate-body-at-2 : tie.Need-slice-aggregate-body-at-2
+slice-aggregate-body-at-2 c =
+    let g = c .before .before .before .before .before .before .before .before .before .before .before .before .before .before .before .pre .1 .1 .1 .1 .1 in
+    sym (length-take-le _ _ (omega (arith, g .macros-few, g .bodies-length)))
+
+add-body-at : tie.Need-add-body-at
+add-body-at c = omega (arith, c .before .before .before .before .before .before .before .before .before .before .before .before .before .before .before .pre .1 .1 .1 .1 .1 .instruments-few)
+
+sub-body-at : tie.Need-sub-body-at
+sub-body-at c = omega arith
+
+part-body-at-start : tie.Need-part-body-at-start
+part-body-at-start c = let z : 2048 ≤ 2048 + 2 * c .before .before .before .before .before .before .before .before .before .before .before .before .before .before .before .args .r .instruments = omega arith in z
+
+part-body-at-end : tie.Need-part-body-at-end
+part-body-at-end c =
+    let s = c .before .before .before .before .before .before .before .before .before .before .before .before .before .before .before in
+    let g = s .pre .1 .1 .1 .1 .1 in
+    let z : 2048 + 2 * s .args .r .instruments ≤ length (s .args .shape .now) = omega (arith, g .instruments-few, g .shape-length) in z
+
+add-body-at-2 : tie.Need-add-body-at-2
+add-body-at-2 c = omega (arith, c .before .before .before .before .before .before .before .before .before .before .before .before .before .before .before .before .pre .1 .1 .1 .1 .1 .instruments-few)
+
+sub-body-at-2 : tie.Need-sub-body-at-2
+sub-body-at-2 c = omega arith
+
+part-body-at-start-2 : tie.Need-part-body-at-start-2
+part-body-at-start-2 c = let z : 6144 ≤ 6144 + (c .before .before .before .before .before .before .before .before .before .before .before .before .before .before .before .before .args .r .instruments + 1) = omega arith in z
+
+part-body-at-end-2 : tie.Need-part-body-at-end-2
+part-body-at-end-2 c =
+    let s = c .before .before .before .before .before .before .before .before .before .before .before .before .before .before .before .before in
+    let g = s .pre .1 .1 .1 .1 .1 in
+    let z : 6144 + (s .args .r .instruments + 1) ≤ length (s .args .numbers .now) = omega (arith, g .instruments-few, g .numbers-length) in z
 
 body-at-requires : tie.Need-body-at-requires
 body-at-requires c κs =
-    let s = c .before .before .before .before .before .before .before .before .before .before .before .before .before in
+    let f = c .before .before .before .before .before .before .before in
+    let s = f .before .before .before .before .before .before .before .before .before .before .before .before .before in
+    let a = s .args in
     let p = s .pre in
-    let g = p .1 .1 .1 .1 in (
-      omega (arith, p .0, g .few),
+    let g = p .1 .1 .1 .1 .0 in
+    let t = p .1 .1 .1 .1 .1 in (
+      omega (arith, p .1 .1 .1 .0, g .few),
       (
         g .floats-length,
         (
@@ -28,9 +89,9 @@ body-at-requires c κs =
           (
             g .loops-length,
             (
-              p .1 .1 .0,
-              subst (λ (x : State). ReadyAt (s .args .k) x (s .args .floats .now) (s .args .bytes .now) (s .args .loops .now)) (sym (c .before .before .before .state-of .ensures))
-                  (state-ready _ _ _ _ _ g _ (p .0)),
+              few-as (a .numbers .now) (a .r .instruments + 1) (t .instruments-few),
+              subst (λ (x : State). ReadyAt (a .k) x (a .floats .now) (a .bytes .now) (a .loops .now)) (sym (f .state-of .ensures))
+                  (state-ready _ _ _ _ _ g _ (p .1 .1 .1 .0)),
             ),
           ),
         ),
@@ -39,8 +100,9 @@ body-at-requires c κs =
 
 stored-requires : tie.Need-stored-requires
 stored-requires c κs =
-    let p = c .before .before .before .before .before .before .before .before .before .before .before .before .before .before .before .before .before .before .before .before .pre in
-    (omega (arith, p .0, p .1 .1 .1 .1 .few), λ z. c .before .before .before .before .before .before .body-at .ensures .ready z .room .few)
+    let b = c .before .before .before .before .before .before in
+    let p = b .before .before .before .before .before .before .before .before .before .before .before .before .before .before .before .before .before .before .before .before .before .pre in
+    (p .0, (omega (arith, p .1 .1 .1 .0, p .1 .1 .1 .1 .0 .few), (p .1 .0, (p .1 .1 .0, λ z. b .body-at .ensures .0 .ready z .room .few))))
 
 same-length : tie.Need-same-length
 same-length c = search needs
@@ -54,19 +116,35 @@ same-length-3 c = search needs
 returns : tie.Need-returns
 returns c =
     let b = c .before .before .before .before .before .before .before in
-    let f = b .before .before .before .before in
-    let s = f .before .before .before .before .before .before .before .before .before .before in
+    let f = b .before .before .before .before .before .before .before .before in
+    let s = f .before .before .before .before .before .before .before .before .before .before .before .before .before in
     let a = s .args in
+    let p = s .pre in
     let l = b .body-at .last .1 .1 .1 .1 .1 .1 in
-    line-whole (bookIn (a .rate) (a .source .now) (a .macros .now) (a .bodies .now) (a .names .now) (a .releases .now)) (a .text .now) (a .k) (a .r)
-    (a .floats .now) (a .bytes .now) (a .loops .now) (l .0) (l .1 .0) (l .1 .1 .0) (s .pre .0) (s .pre .1 .0)
-    (f .state-of .result) (f .state-of .ensures) (b .body-at .result) (b .body-at .ensures) (c .stored .result) (c .stored .ensures)
+    line-passes (a .r) (a .k) _ (a .text .now) (a .next) (a .floats .now) (a .bytes .now) (a .loops .now) (l .0) (l .1 .0) (l .1 .1 .0)
+    (p .1 .1 .1 .0) (p .1 .0) (f .state-of .result) (f .state-of .ensures) (b .body-at .result)
+    (body-as (a .rate) (a .source .now) (a .macros .now) (a .bodies .now) (a .numbers .now) (a .shape .now) (a .r) (p .1 .1 .1 .1 .1 .instruments-few) (a .r .line) (a .text .now) (a .k) (f .state-of .result) (b .body-at .result)
+    (a .floats .now) (a .bytes .now) (a .loops .now) (l .0) (l .1 .0) (l .1 .1 .0) (b .body-at .ensures .0))
+    (c .stored .result) (c .stored .ensures) (b .body-at .ensures .1)
 
 pub played-spec : {M : Type 1} → statement M
 played-spec =
     tie.close
     (tie.spec
+    mul-m
+    mul-n
+    add-i
     state-of-requires
+    slice-aggregate-body-at
+    slice-aggregate-body-at-2
+    add-body-at
+    sub-body-at
+    part-body-at-start
+    part-body-at-end
+    add-body-at-2
+    sub-body-at-2
+    part-body-at-start-2
+    part-body-at-end-2
     body-at-requires
     stored-requires
     same-length

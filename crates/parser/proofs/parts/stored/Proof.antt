@@ -1,12 +1,14 @@
--- `stored` puts the state into the arrays, or its refusal into the reading. Assumes nothing.
+-- `stored` puts the state into the arrays and goes on behind the line, or takes its refusal. Assumes nothing.
 use native.Mathlib.Omega.{arith}
-use Rattle.parser.proofs.Playing.{stored-kept, stored-refused}
+use Rattle.parser.proofs.Storing.{stored-refuses, stored-known, stored-new}
 use borrow.Author.Needs.{needs}
 use Rattle.parser.proofs.parts.stored.Statement.{statement}
 use Rattle.parser.proofs.parts.stored.Tie as tie
 
 returns : tie.Need-returns
-returns c = stored-refused _ _ _ (c .if1 .taken)
+returns c =
+    let a = c .before .before .args in
+    stored-refuses (a .next) (a .r) (a .k) (a .st) (c .if1 .taken)
 
 mul-env : tie.Need-mul-env
 mul-env c = search needs
@@ -27,10 +29,25 @@ element-write-q-2 : tie.Need-element-write-q-2
 element-write-q-2 c = search needs
 
 add-q : tie.Need-add-q
-add-q c = omega (arith, c .before .before .before .pre .1 (c .before .if1 .left))
+add-q c = omega (arith, c .before .before .before .before .pre .1 .1 .1 .1 (c .before .before .if1 .left))
+
+add-q-2 : tie.Need-add-q-2
+add-q-2 c = omega (arith, c .before .before .before .before .before .pre .1 .1 .1 .0)
 
 returns-2 : tie.Need-returns-2
-returns-2 c = stored-kept _ _ _ (c .before .if1 .left)
+returns-2 c =
+    let s = c .before .before .before .before .before .before .before in
+    let a = s .args in
+    stored-known (a .next) (a .r) (a .k) (a .st) (s .pre .1 .1 .0) (c .before .before .before .before .before .if1 .left) (c .if2 .taken)
+
+add-q-3 : tie.Need-add-q-3
+add-q-3 c = omega (arith, c .before .before .before .before .before .before .before .pre .1 .0)
+
+returns-3 : tie.Need-returns-3
+returns-3 c =
+    let s = c .before .before .before .before .before .before .before in
+    let a = s .args in
+    stored-new (a .next) (a .r) (a .k) (a .st) (s .pre .1 .1 .0) (c .before .before .before .before .before .if1 .left) (c .if2 .left) (s .pre .0)
 
 pub stored-spec : {M : Type 1} → statement M
 stored-spec =
@@ -44,4 +61,7 @@ stored-spec =
     mul-q-2
     element-write-q-2
     add-q
-    returns-2)
+    add-q-2
+    returns-2
+    add-q-3
+    returns-3)
