@@ -76,29 +76,28 @@ fn state_of(r: Sofar, k: usize) -> State
 }
 
 // The reading behind the line with this state for the part k, or with the state's refusal.
-fn stored(r: Sofar, k: usize, st: State, next: usize) -> Sofar
+fn stored(mut r: Sofar, k: usize, st: State, next: usize) -> Sofar
     requires { ⌜ (k ≤ r .parts) × ((k < 16) × ((r .refusal ≡ 0) × ((r .line ≤ 2000000) × (st .refusal ≡ 0 → st .others + st .count ≤ 2048)))) ⌝ }
     ensures { λ q. ⌜ Passed next (storedAs (withPart r k) k st) q ⌝ }
 {
-    let mut q = r;
     if st.refusal != 0 {
-        q.refusal = st.refusal;
-        q.line = st.line;
-        return q;
+        r.refusal = st.refusal;
+        r.line = st.line;
+        return r;
     }
     let env = st.env;
-    q.envs[k] = env;
-    q.counts[k] = st.count;
-    q.depths[k] = st.depth;
-    q.all = st.others + st.count;
-    q.steps = st.steps;
-    q.line = r.line + 1;
-    q.at = next;
+    r.envs[k] = env;
+    r.counts[k] = st.count;
+    r.depths[k] = st.depth;
+    r.all = st.others + st.count;
+    r.steps = st.steps;
+    r.line = r.line + 1;
+    r.at = next;
     if k < r.parts {
-        return q;
+        return r;
     }
-    q.parts = k + 1;
-    q
+    r.parts = k + 1;
+    r
 }
 
 // A body that is read on from a state, in the regions of the part k.

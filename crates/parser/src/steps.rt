@@ -18,24 +18,22 @@ use directive::directive::read_directive;
 use tables::table::macro_line;
 
 // A refusal with its line.
-pub(crate) fn refused(r: Sofar, number: u32, line: usize) -> Sofar
+pub(crate) fn refused(mut r: Sofar, number: u32, line: usize) -> Sofar
     ensures { λ q. ⌜ q ≡ refusedAt r number line ⌝ }
 {
-    let mut q = r;
-    q.refusal = number;
-    q.line = line;
-    q
+    r.refusal = number;
+    r.line = line;
+    r
 }
 
 // On behind one line.
-pub(crate) fn passed(r: Sofar, next: usize) -> Sofar
+pub(crate) fn passed(mut r: Sofar, next: usize) -> Sofar
     requires { ⌜ r .line ≤ 2000000 ⌝ }
     ensures { λ q. ⌜ q ≡ passedTo r (r .macros) (r .instruments) (r .line + 1) next ⌝ }
 {
-    let mut q = r;
-    q.line = r.line + 1;
-    q.at = next;
-    q
+    r.line = r.line + 1;
+    r.at = next;
+    r
 }
 
 // The number of a directive's refusal, 0 for none.
