@@ -6,13 +6,13 @@ use Rattle.parser.proofs.header.kept.Statement.{statement}
 use Rattle.parser.proofs.header.kept.Tie as tie
 
 block-at-requires : tie.Need-block-at-requires
-block-at-requires c κs = search needs
+block-at-requires c κs = c .before .before .before .before .before .pre
 
 same-length : tie.Need-same-length
-same-length c = search needs
+same-length c = c .before .before .before .before .before .before .block-at .kept .1 .1 .0
 
 same-length-2 : tie.Need-same-length-2
-same-length-2 c = search needs
+same-length-2 c = c .before .before .before .before .before .before .block-at .kept .1 .1 .1 .0
 
 returns : tie.Need-returns
 returns c =

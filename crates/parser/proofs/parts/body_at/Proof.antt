@@ -1,4 +1,7 @@
 -- `body_at` lends the part's regions to `read_part`. Assumes nothing.
+use Prim.Native.Nat.{_+_, _*_, _≤_}
+use native.Mathlib.Omega.{arith}
+use lib.ListN.{length}
 use Rattle.part.specs.Columns.{bookIn}
 use Rattle.parser.proofs.Playing.{body-came, body-places}
 use borrow.Author.Needs.{needs}
@@ -6,64 +9,70 @@ use Rattle.parser.proofs.parts.body_at.Statement.{statement}
 use Rattle.parser.proofs.parts.body_at.Tie as tie
 
 mul-read-part : tie.Need-mul-read-part
-mul-read-part c = search needs
+mul-read-part c = omega (arith, c .before .before .before .before .before .before .before .before .before .pre .0)
 
 mul-read-part-2 : tie.Need-mul-read-part-2
-mul-read-part-2 c = search needs
+mul-read-part-2 c = omega (arith, c .before .before .before .before .before .before .before .before .before .pre .0)
 
 add-read-part : tie.Need-add-read-part
-add-read-part c = search needs
+add-read-part c = omega (arith, c .before .before .before .before .before .before .before .before .before .pre .0)
 
 mul-read-part-3 : tie.Need-mul-read-part-3
-mul-read-part-3 c = search needs
+mul-read-part-3 c = omega (arith, c .before .before .before .before .before .before .before .before .before .pre .0)
 
 sub-read-part : tie.Need-sub-read-part
-sub-read-part c = search needs
+sub-read-part c = omega arith
 
 part-read-part-start : tie.Need-part-read-part-start
-part-read-part-start c = search needs
+part-read-part-start c = let z : 6144 * c .before .before .before .before .before .before .before .before .before .args .k ≤ 6144 * c .before .before .before .before .before .before .before .before .before .args .k + 6144 = omega arith in z
 
 part-read-part-end : tie.Need-part-read-part-end
-part-read-part-end c = search needs
+part-read-part-end c =
+    let s = c .before .before .before .before .before .before .before .before .before in
+    let z : 6144 * s .args .k + 6144 ≤ length (s .args .floats .now) = omega (arith, s .pre .0, s .pre .1 .0) in z
 
 mul-read-part-4 : tie.Need-mul-read-part-4
-mul-read-part-4 c = search needs
+mul-read-part-4 c = omega (arith, c .before .before .before .before .before .before .before .before .before .before .pre .0)
 
 mul-read-part-5 : tie.Need-mul-read-part-5
-mul-read-part-5 c = search needs
+mul-read-part-5 c = omega (arith, c .before .before .before .before .before .before .before .before .before .before .pre .0)
 
 add-read-part-2 : tie.Need-add-read-part-2
-add-read-part-2 c = search needs
+add-read-part-2 c = omega (arith, c .before .before .before .before .before .before .before .before .before .before .pre .0)
 
 sub-read-part-2 : tie.Need-sub-read-part-2
-sub-read-part-2 c = search needs
+sub-read-part-2 c = omega arith
 
 part-read-part-start-2 : tie.Need-part-read-part-start-2
-part-read-part-start-2 c = search needs
+part-read-part-start-2 c = let z : 2048 * c .before .before .before .before .before .before .before .before .before .before .args .k ≤ 2048 * c .before .before .before .before .before .before .before .before .before .before .args .k + 2048 = omega arith in z
 
 part-read-part-end-2 : tie.Need-part-read-part-end-2
-part-read-part-end-2 c = search needs
+part-read-part-end-2 c =
+    let s = c .before .before .before .before .before .before .before .before .before .before in
+    let z : 2048 * s .args .k + 2048 ≤ length (s .args .bytes .now) = omega (arith, s .pre .0, s .pre .1 .1 .0) in z
 
 mul-read-part-6 : tie.Need-mul-read-part-6
-mul-read-part-6 c = search needs
+mul-read-part-6 c = omega (arith, c .before .before .before .before .before .before .before .before .before .before .before .pre .0)
 
 mul-read-part-7 : tie.Need-mul-read-part-7
-mul-read-part-7 c = search needs
+mul-read-part-7 c = omega (arith, c .before .before .before .before .before .before .before .before .before .before .before .pre .0)
 
 add-read-part-3 : tie.Need-add-read-part-3
-add-read-part-3 c = search needs
+add-read-part-3 c = omega (arith, c .before .before .before .before .before .before .before .before .before .before .before .pre .0)
 
 mul-read-part-8 : tie.Need-mul-read-part-8
-mul-read-part-8 c = search needs
+mul-read-part-8 c = omega (arith, c .before .before .before .before .before .before .before .before .before .before .before .pre .0)
 
 sub-read-part-3 : tie.Need-sub-read-part-3
-sub-read-part-3 c = search needs
+sub-read-part-3 c = omega arith
 
 part-read-part-start-3 : tie.Need-part-read-part-start-3
-part-read-part-start-3 c = search needs
+part-read-part-start-3 c = let z : 16 * c .before .before .before .before .before .before .before .before .before .before .before .args .k ≤ 16 * c .before .before .before .before .before .before .before .before .before .before .before .args .k + 16 = omega arith in z
 
 part-read-part-end-3 : tie.Need-part-read-part-end-3
-part-read-part-end-3 c = search needs
+part-read-part-end-3 c =
+    let s = c .before .before .before .before .before .before .before .before .before .before .before in
+    let z : 16 * s .args .k + 16 ≤ length (s .args .loops .now) = omega (arith, s .pre .0, s .pre .1 .1 .1 .0) in z
 
 read-part-requires : tie.Need-read-part-requires
 read-part-requires c κs = search needs

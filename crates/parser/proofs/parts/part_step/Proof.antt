@@ -1,4 +1,6 @@
 -- `part_step` meets its contract: one law for each of its ways out. Assumes nothing.
+use mathlib.Core.Path.{refl, _∙_}
+use native.Mathlib.Nat.{le-refl}
 use native.Mathlib.Omega.{arith}
 use borrow.Author.Tests.{not-true, not-false}
 use Rattle.tables.proofs.MacroLines.{name-places, name-ends}
@@ -18,7 +20,7 @@ part-l-end : tie.Need-part-l-end
 part-l-end c = lined _ _ _ _ (c .before .before .before .before .before .before .before .before .pre .0) .within
 
 name-at-requires : tie.Need-name-at-requires
-name-at-requires c κs = search needs
+name-at-requires c κs = tt
 
 passed-requires : tie.Need-passed-requires
 passed-requires c κs = line-small _ _ _ _ (c .before .before .before .before .before .before .before .before .before .before .before .pre .0)
@@ -57,7 +59,7 @@ part-text-start c =
     name-places (a .source .now) (a .r .at) (a .end) _ (c .before .before .name-at .ensures) .1
 
 part-text-end : tie.Need-part-text-end
-part-text-end c = search needs
+part-text-end c = le-refl _
 
 place-of-requires : tie.Need-place-of-requires
 place-of-requires c κs =
@@ -65,10 +67,10 @@ place-of-requires c κs =
     (g .few, g .loops-length)
 
 refused-requires : tie.Need-refused-requires
-refused-requires c κs = search needs
+refused-requires c κs = tt
 
 same-length : tie.Need-same-length
-same-length c = search needs
+same-length c = refl
 
 returns-2 : tie.Need-returns-2
 returns-2 c =
@@ -114,13 +116,13 @@ played-requires c κs =
     (n .name-at .result) (n .name-at .ensures) (not-false _ (c .before .before .before .before .before .before .before .before .before .before .before .before .if1 .left)) (p .place-of .result) (p .place-of .ensures) (omega (arith, room)) (d .named .last .0) (d .named .ensures) (d .named .kept .0)
 
 same-length-2 : tie.Need-same-length-2
-same-length-2 c = search needs
+same-length-2 c = c .before .before .before .before .before .before .played .kept .1 .1 .1 .1 .1 .1 .0
 
 same-length-3 : tie.Need-same-length-3
-same-length-3 c = search needs
+same-length-3 c = c .before .before .before .before .before .before .played .kept .1 .1 .1 .1 .1 .1 .1 .0
 
 same-length-4 : tie.Need-same-length-4
-same-length-4 c = search needs
+same-length-4 c = c .before .before .before .before .before .before .played .kept .1 .1 .1 .1 .1 .1 .1 .1 .0 ∙ c .before .before .before .before .before .before .before .before .before .before .before .before .named .kept .0
 
 returns-3 : tie.Need-returns-3
 returns-3 c =

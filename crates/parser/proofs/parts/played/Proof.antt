@@ -1,16 +1,13 @@
 -- `played` reads the body on from the part's state, and stores the state that comes of it. Assumes nothing.
-use mathlib.Core.Path.{_≡_, refl, sym, ap₂, subst, _∙_}
-use mathlib.Core.List.{List}
-use Prim.Native.Nat.{ℕ, _+_, _*_, _≤_}
+use mathlib.Core.Path.{sym, subst}
+use Prim.Native.Nat.{_+_, _*_, _≤_}
 use native.Mathlib.Omega.{arith}
-use lib.Ieee.{Float}
 use lib.Seq.{length-take-le}
 use lib.ListN.{length, take}
 use Rattle.part.specs.Columns.{bookIn}
 use Rattle.part.specs.declared.state.State.{State}
-use Rattle.parser.specs.Columns.{nameColumn, releaseColumn}
-use Rattle.parser.specs.PartSteps.{withPart, ReadyAt, bodyAt, BodyCame}
-use Rattle.parser.proofs.Pieces.{region-front}
+use Rattle.parser.specs.Columns.{nameColumn, releaseColumn, placeColumn}
+use Rattle.parser.specs.PartSteps.{withPart, ReadyAt}
 use Rattle.parser.proofs.Playing.{state-ready}
 use Rattle.parser.proofs.PartReads.{few-as, body-as}
 use Rattle.parser.proofs.Storing.{state-asks, line-passes}
@@ -31,7 +28,7 @@ state-of-requires : tie.Need-state-of-requires
 state-of-requires c κs =
     let s = c .before .before .before .before .before .before .before .before .before .before .before .before in
     let p = s .pre in
-    state-asks (s .args .r) (s .args .k) _ _ _ _ (p .0) (p .1 .1 .1 .0) (p .1 .1 .1 .1 .0)
+    state-asks (s .args .r) (s .args .k) (placeColumn (s .args .loops .now)) (s .args .floats .now) (s .args .bytes .now) (s .args .loops .now) (p .0) (p .1 .1 .1 .0) (p .1 .1 .1 .1 .0)
 
 slice-aggregate-body-at : tie.Need-slice-aggregate-body-at
 slice-aggregate-body-at c =
@@ -91,7 +88,7 @@ body-at-requires c κs =
             (
               few-as (a .numbers .now) (a .r .instruments + 1) (t .instruments-few),
               subst (λ (x : State). ReadyAt (a .k) x (a .floats .now) (a .bytes .now) (a .loops .now)) (sym (f .state-of .ensures))
-                  (state-ready _ _ _ _ _ g _ (p .1 .1 .1 .0)),
+                  (state-ready (placeColumn (a .loops .now)) (withPart (a .r) (a .k)) (a .floats .now) (a .bytes .now) (a .loops .now) g (a .k) (p .1 .1 .1 .0)),
             ),
           ),
         ),
@@ -105,13 +102,13 @@ stored-requires c κs =
     (p .0, (omega (arith, p .1 .1 .1 .0, p .1 .1 .1 .1 .0 .few), (p .1 .0, (p .1 .1 .0, λ z. b .body-at .ensures .0 .ready z .room .few))))
 
 same-length : tie.Need-same-length
-same-length c = search needs
+same-length c = c .before .before .before .before .before .before .before .body-at .kept .1 .1 .1 .1 .1 .1 .0
 
 same-length-2 : tie.Need-same-length-2
-same-length-2 c = search needs
+same-length-2 c = c .before .before .before .before .before .before .before .body-at .kept .1 .1 .1 .1 .1 .1 .1 .0
 
 same-length-3 : tie.Need-same-length-3
-same-length-3 c = search needs
+same-length-3 c = c .before .before .before .before .before .before .before .body-at .kept .1 .1 .1 .1 .1 .1 .1 .1 .0
 
 returns : tie.Need-returns
 returns c =
@@ -121,7 +118,8 @@ returns c =
     let a = s .args in
     let p = s .pre in
     let l = b .body-at .last .1 .1 .1 .1 .1 .1 in
-    line-passes (a .r) (a .k) _ (a .text .now) (a .next) (a .floats .now) (a .bytes .now) (a .loops .now) (l .0) (l .1 .0) (l .1 .1 .0)
+    line-passes (a .r) (a .k)
+    (bookIn (a .rate) (a .source .now) (take (2 * a .r .macros) (a .macros .now)) (take (2 * a .r .macros) (a .bodies .now)) (take (2 * a .r .instruments) (nameColumn (a .shape .now))) (take (a .r .instruments + 1) (releaseColumn (a .numbers .now)))) (a .text .now) (a .next) (a .floats .now) (a .bytes .now) (a .loops .now) (l .0) (l .1 .0) (l .1 .1 .0)
     (p .1 .1 .1 .0) (p .1 .0) (f .state-of .result) (f .state-of .ensures) (b .body-at .result)
     (body-as (a .rate) (a .source .now) (a .macros .now) (a .bodies .now) (a .numbers .now) (a .shape .now) (a .r) (p .1 .1 .1 .1 .1 .instruments-few) (a .r .line) (a .text .now) (a .k) (f .state-of .result) (b .body-at .result)
     (a .floats .now) (a .bytes .now) (a .loops .now) (l .0) (l .1 .0) (l .1 .1 .0) (b .body-at .ensures .0))
