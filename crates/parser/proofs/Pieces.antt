@@ -6,7 +6,7 @@ use native.Mathlib.Omega.{arith}
 use lib.ListN.{length, take, drop, set, length-drop, take-append-drop}
 use lib.Seq.{length-take-le, take-append-le, drop-append-le, drop-drop, drop-at, take-take, drop-set-lt, drop-set-add, take-set-le, take-set-lt}
 use Rattle.layout.specs.Regions.{region}
-use Rattle.layout.proofs.Regions.{back}
+use Rattle.layout.proofs.Regions.{lent, back, lent-region, region-wide, back-length}
 
 -- ---- a store
 
@@ -74,3 +74,8 @@ region-front w k xs at n e h =
     ap (λ (m : ℕ). take m (drop at xs)) (let z : at + n - at ≡ n = omega arith in z)
     ∙ ap (λ (m : ℕ). take n (drop m xs)) e
     ∙ sym (take-take n w (drop (w * k) xs) h)
+
+-- ---- a column with a region that came back
+
+pub back-long : {A : Type 0} (w k : ℕ) (xs ys : List A) → w * k + w ≤ length xs → length ys ≡ length (lent w k xs) → length (back w k xs ys) ≡ length xs
+back-long w k xs ys h e = back-length w k xs ys h (e ∙ ap length (lent-region w k xs) ∙ region-wide w k xs h)

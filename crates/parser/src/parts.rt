@@ -120,6 +120,9 @@ fn body_at(
     ensures body { λ q. ⌜ BodyCame (bodyAt (bookIn rate (now (source .entry)) (now (macros .entry)) (now (bodies .entry)) (now (names .entry)) (now (releases .entry))) line (now (text .entry)) k st (now (floats .entry)) (now (bytes .entry)) (now (loops .entry))) k st q (now (floats .entry)) (now (bytes .entry)) (now (loops .entry)) (now (floats .exit)) (now (bytes .exit)) (now (loops .exit)) ⌝ }
     ensures places { λ _. ⌜ placeColumn (now (loops .exit)) ≡ placeColumn (now (loops .entry)) ⌝ }
 {
+    let a = 6144 * k;
+    let b = 2048 * k;
+    let d = 16 * k;
     read_part(
         source,
         macros,
@@ -127,9 +130,9 @@ fn body_at(
         names,
         releases,
         text,
-        &mut floats[6144 * k..6144 * k + 6144],
-        &mut bytes[2048 * k..2048 * k + 2048],
-        &mut loops[16 * k..16 * k + 16],
+        &mut floats[a..a + 6144],
+        &mut bytes[b..b + 2048],
+        &mut loops[d..d + 16],
         st,
         line,
         rate,
