@@ -21,8 +21,8 @@ data-fits n h = omega arith
 size-fits : (k n : ℕ) → k ≤ 44 → n ≤ 2000000000 → Fits w64 (k + 2 * n)
 size-fits k n l h = omega arith
 
-size-field : (n : ℕ) → n ≤ 2000000000 → Fits w32 (32 + 2 * n)
-size-field n h = omega arith
+size-field : (k n : ℕ) → k ≤ 44 → n ≤ 2000000000 → Fits w32 (k + 2 * n)
+size-field k n l h = omega arith
 
 count-field : (n : ℕ) → n ≤ 2000000000 → Fits w32 n
 count-field n h = omega arith
@@ -32,10 +32,10 @@ unfolding told fileTold fileIn
 returns c = (rw (lt-leb _ _ (c .if1 .taken), fileTold), rw (lt-leb _ _ (c .if1 .taken), fileIn))
 
 mul-if2 : tie.Need-mul-if2
-mul-if2 c = data-fits _ (c .if1 .left)
+mul-if2 c = search needs
 
 add-if2 : tie.Need-add-if2
-add-if2 c = size-fits 44 _ (lit≤ tt) (c .if1 .left)
+add-if2 c = search needs
 
 returns-2 : tie.Need-returns-2
 unfolding told fileTold fileIn
@@ -47,10 +47,10 @@ mul-write-header : tie.Need-mul-write-header
 mul-write-header c = data-fits _ (c .before .before .if1 .left)
 
 add-write-header : tie.Need-add-write-header
-add-write-header c = size-fits 32 _ (lit≤ tt) (c .before .before .if1 .left)
+add-write-header c = size-fits _ _ (lit≤ tt) (c .before .before .if1 .left)
 
 cast-write-header : tie.Need-cast-write-header
-cast-write-header c = size-field _ (c .before .before .if1 .left)
+cast-write-header c = size-field _ _ (lit≤ tt) (c .before .before .if1 .left)
 
 cast-write-header-2 : tie.Need-cast-write-header-2
 cast-write-header-2 c = count-field _ (c .before .before .if1 .left)
@@ -65,7 +65,7 @@ mul-t6 : tie.Need-mul-t6
 mul-t6 c = data-fits _ (c .before .before .before .before .before .before .before .before .before .if1 .left)
 
 add-t8 : tie.Need-add-t8
-add-t8 c = size-fits 44 _ (lit≤ tt) (c .before .before .before .before .before .before .before .before .before .if1 .left)
+add-t8 c = size-fits _ _ (lit≤ tt) (c .before .before .before .before .before .before .before .before .before .if1 .left)
 
 same-length : tie.Need-same-length
 same-length c = search needs
