@@ -9,3 +9,4 @@ pub mod Rounds
 pub mod Running
 pub mod Stacks
 pub mod TreeLines
+pub mod Turns

@@ -4,7 +4,7 @@ use mathlib.Core.Path.{_≡_, refl, sym, ap, subst, _∙_}
 use Prim.Native.Nat.{ℕ, _+_, _-_, _*_, _≤_, _<_, min}
 use native.Mathlib.Nat.{le-of-lt}
 use native.Mathlib.Omega.{arith}
-use borrow.Author.Needs.{needs, scaled-fits}
+use borrow.Author.Needs.{needs}
 use mir.Syntax.{w64}
 use mir.Val.{Fits}
 use lib.Dec.{le→leb, lit≤}
@@ -16,6 +16,7 @@ use Rattle.sine.specs.Quarter.{quarter}
 use Rattle.instrument.specs.Fill.{countFrom, filled, soundFrom}
 use Rattle.instrument.proofs.Filling.{Front, front-none, front-length, front-next, sound-is}
 use Rattle.instrument.proofs.Running.{Running, running-start, running-more, running-end}
+use Rattle.instrument.proofs.Turns.{place-fits, next-fits, more, less, meets, below-64, shallower, reaches, under, below-most}
 use Rattle.instrument.proofs.machine.Instrument.fill.Statement.{statement}
 use Rattle.instrument.proofs.machine.Instrument.fill.Tie as tie
 
@@ -43,41 +44,11 @@ abbrev μ-loop : tie.MeasureT-loop
     room - i
 
 -- what a place and a step ask for, over plain numbers
-place-fits : (i most size : ℕ) → i < most → most * size ≤ 134217728 → Fits w64 (i * size)
-place-fits i most size h m = scaled-fits i most size h (omega arith)
-
-next-fits : (i : ℕ) → i < 16777216 → Fits w64 (i + 1)
-next-fits i h = omega arith
-
 sample-fits : (n : ℕ) → n < 16777216 → Fits w64 n
 sample-fits n h = omega arith
 
 part-of-sum : (n i most : ℕ) → n + i < most → i < most
 part-of-sum n i most h = omega arith
-
-more : (k count : ℕ) → k < count → k + 1 ≤ count
-more k count h = omega arith
-
-less : (k count : ℕ) → k < count → count - (k + 1) < count - k
-less k count h = omega arith
-
-meets : (k count : ℕ) → k ≤ count → count ≤ k → k ≡ count
-meets k count h l = omega arith
-
-below-64 : (k count counted : ℕ) → count ≡ min counted 64 → k < count → k < 64
-below-64 k count counted e h = omega arith
-
-shallower : (depth k : ℕ) → depth ≤ k → k < 64 → depth < 64
-shallower depth k h l = omega arith
-
-reaches : (k count counted : ℕ) → count ≡ min counted 64 → count ≤ k → min counted 64 ≤ k
-reaches k count counted e h = omega arith
-
-under : (k count counted : ℕ) → count ≡ min counted 64 → k < count → k < min counted 64
-under k count counted e h = omega arith
-
-below-most : (k : ℕ) → k < 64 → k < 16777216
-below-most k h = omega arith
 
 counted-in : (first i room have : ℕ) → room ≡ countFrom first have → i < room → (first + i < 16777216) × (i < have)
 unfolding countFrom
