@@ -3,7 +3,7 @@ use mathlib.Core.Path.{_≡_, refl, sym, ap, subst, _∙_}
 use Prim.Native.Nat.{ℕ, _+_, _-_, _*_, _≤_, _<_, min}
 use native.Mathlib.Omega.{arith}
 use lib.Dec.{lit≤}
-use borrow.Author.Needs.{needs, scaled-fits}
+use borrow.Author.Needs.{needs}
 use lib.ListN.{length, getD, length-map}
 use lib.Ieee.{nan}
 use mir.Syntax.{w64}
@@ -11,6 +11,7 @@ use mir.Val.{Fits}
 use Rattle.instrument.specs.declared.machine.Instrument.{Instrument}
 use Rattle.sheet.specs.Parts.{instrumentsOf}
 use Rattle.sheet.specs.declared.note.Note.{Note}
+use Rattle.handed.proofs.Turns.{less, more, meets, below, small-place, under, fewer, in-all, ends-within, sum-fits, at-next}
 use Rattle.evaluator.specs.Placing.{nobody, playerOf, soundsOf, placedNote, placed}
 use Rattle.evaluator.specs.Mixing.{mixOne}
 use Rattle.evaluator.proofs.Pieces.{note-none, note-sounds, note-reach}
@@ -46,44 +47,11 @@ table-32 : (c : tie.Start Inv-loop2 μ-loop2 Inv-loop μ-loop) → length (c .ar
 table-32 c = sym (length-map (c .args .t1 .table) _) ∙ c .good .0 .1 .1 .1 .1 .1 .1 .0 .1 .0 .1
 
 -- what a place, a time and a step ask for, over plain numbers
-below : (n most : ℕ) → n < most → most ≤ 4096 → Fits w64 (n + 1)
-below n most h m = omega arith
-
-small-place : (i most size : ℕ) → i < most → most * size ≤ 131072 → Fits w64 (i * size)
-small-place i most size h m = scaled-fits i most size h (omega arith)
-
-under : (k n most : ℕ) → k ≡ min n most → k < most + 1
-under k n most e = omega arith
-
-fewer : (p parts counted : ℕ) → p < parts → parts ≡ min counted 16 → p < 16
-fewer p parts counted h e = omega arith
-
-sum-fits : (n d count : ℕ) → d ≡ min count (2048 - n) → n ≤ 2048 → Fits w64 (n + d)
-sum-fits n d count e h = omega arith
-
 end-fits : (at k : ℕ) → at ≤ 34359738368 → k ≤ 16777216 → Fits w64 (at + k)
 end-fits at k h m = omega arith
 
 at-most : (n at stop : ℕ) → n < stop → stop ≤ 2048 → at ≤ n * 16777216 → at ≤ 34359738368
 at-most n at stop h l m = omega arith
-
-at-next : (n at k : ℕ) → at ≤ n * 16777216 → k ≤ 16777216 → at + k ≤ (n + 1) * 16777216
-at-next n at k h m = omega arith
-
-more : (n stop : ℕ) → n < stop → n + 1 ≤ stop
-more n stop h = omega arith
-
-meets : (n stop : ℕ) → n ≤ stop → stop ≤ n → n ≡ stop
-meets n stop h l = omega arith
-
-ends-within : (m n d count : ℕ) → m ≡ n + d → d ≡ min count (2048 - n) → n ≤ 2048 → m ≤ 2048
-ends-within m n d count e f h = omega arith
-
-in-all : (n stop : ℕ) → n < stop → stop ≤ 2048 → n < 2048
-in-all n stop h l = omega arith
-
-one-less : (n stop : ℕ) → n < stop → stop - (n + 1) < stop - n
-one-less n stop h = omega arith
 
 -- the notes of a part end within the array
 part-within : (c : tie.In-loop2 Inv-loop2 μ-loop2 Inv-loop μ-loop) → c .before .before .before .before .before .loop .n + c .before .before .least3 .result ≤ 2048
@@ -247,7 +215,7 @@ mix-note-requires c κs =
     )
 
 loop2-less : tie.Need-loop2-less Inv-loop2 μ-loop2 Inv-loop μ-loop
-loop2-less c = let i = c .before .before .before .before .before .before .before .before .before .before .before .before .before .before .before .before .before in one-less (i .before .loop2 .n) _ (i .loop2-test .taken)
+loop2-less c = let i = c .before .before .before .before .before .before .before .before .before .before .before .before .before .before .before .before .before in less _ (i .before .loop2 .n) (i .loop2-test .taken)
 
 loop2-again : tie.Need-loop2-again Inv-loop2 μ-loop2 Inv-loop μ-loop
 loop2-again c =
@@ -258,7 +226,7 @@ loop2-again c =
     let o = i .before .before .before .before .before .loop in
     let l = i .before .loop2 in
     let t = c .before .before .before .before .before in (
-      more (l .n) _ (i .loop2-test .taken),
+      more _ (l .n) (i .loop2-test .taken),
       at-next (l .n) (l .at) (q .before .samples .result) (l .inv .1) (q .before .samples .ensures .1),
       note-step (s .args .rate) (instrumentsOf a) (a .counts) (i .before .before .before .before .before .before .least2 .result) (a .notes) {from = s .args .from} {covered₀ = o .covered} {all = atNote (s .args .rate) (instrumentsOf a) (a .counts) (i .before .before .before .before .before .before .least2 .result) (a .notes) (o .p) (o .n) (o .n + i .before .before .least3 .result) 0} {out₀ = o .out} (o .p) (l .n) (o .n + i .before .before .least3 .result) (l .at) (note q) noNote (l .covered) (l .out) (q .samples2 .result) _ _ _ refl
           (i .loop2-test .taken) (subst (λ (m : ℕ). o .n + i .before .before .least3 .result ≤ m) (sym (notes-2048 s)) (part-within i)) (q .before .samples .ensures .0) (sounded q) (t .before .before .before .before .larger .ensures)
@@ -268,7 +236,7 @@ loop2-again c =
     )
 
 loop2-less-2 : tie.Need-loop2-less-2 Inv-loop2 μ-loop2 Inv-loop μ-loop
-loop2-less-2 c = let i = c .before .before .before .before .before .before .before .before .before .before .before .before in one-less (i .before .loop2 .n) _ (i .loop2-test .taken)
+loop2-less-2 c = let i = c .before .before .before .before .before .before .before .before .before .before .before .before in less _ (i .before .loop2 .n) (i .loop2-test .taken)
 
 loop2-again-2 : tie.Need-loop2-again-2 Inv-loop2 μ-loop2 Inv-loop μ-loop
 loop2-again-2 c =
@@ -279,7 +247,7 @@ loop2-again-2 c =
     let o = i .before .before .before .before .before .loop in
     let l = i .before .loop2 in
     let t = c in (
-      more (l .n) _ (i .loop2-test .taken),
+      more _ (l .n) (i .loop2-test .taken),
       at-next (l .n) (l .at) (q .before .samples .result) (l .inv .1) (q .before .samples .ensures .1),
       note-step (s .args .rate) (instrumentsOf a) (a .counts) (i .before .before .before .before .before .before .least2 .result) (a .notes) {from = s .args .from} {covered₀ = o .covered} {all = atNote (s .args .rate) (instrumentsOf a) (a .counts) (i .before .before .before .before .before .before .least2 .result) (a .notes) (o .p) (o .n) (o .n + i .before .before .least3 .result) 0} {out₀ = o .out} (o .p) (l .n) (o .n + i .before .before .least3 .result) (l .at) (note q) noNote (l .covered) (l .out) (q .samples2 .result) _ _ _ refl
           (i .loop2-test .taken) (subst (λ (m : ℕ). o .n + i .before .before .least3 .result ≤ m) (sym (notes-2048 s)) (part-within i)) (q .before .samples .ensures .0) (sounded q) (t .before .before .before .before .larger .ensures)
@@ -292,7 +260,7 @@ add-p : tie.Need-add-p Inv-loop2 μ-loop2 Inv-loop μ-loop
 add-p c = below (c .before .before .before .before .before .loop .p) 16 (parts-within (c .before .before .before .before)) (lit≤ tt)
 
 loop-less : tie.Need-loop-less Inv-loop2 μ-loop2 Inv-loop μ-loop
-loop-less c = one-less (c .before .before .before .before .before .loop .p) (c .before .before .before .before .before .before .least2 .result) (c .before .before .before .before .loop-test .taken)
+loop-less c = less (c .before .before .before .before .before .before .least2 .result) (c .before .before .before .before .before .loop .p) (c .before .before .before .before .loop-test .taken)
 
 loop-again : tie.Need-loop-again Inv-loop2 μ-loop2 Inv-loop μ-loop
 loop-again c =
@@ -302,8 +270,8 @@ loop-again c =
     let i = c .before .before .before .before in
     let l = c .before .loop2 in
     let m = c .before .before .least3 in
-    let e : l .n ≡ o .n + m .result = meets (l .n) (o .n + m .result) (l .inv .0) (c .loop2-test .left) in (
-      more (o .p) (i .before .before .least2 .result) (i .loop-test .taken),
+    let e : l .n ≡ o .n + m .result = meets (o .n + m .result) (l .n) (l .inv .0) (c .loop2-test .left) in (
+      more (i .before .before .least2 .result) (o .p) (i .loop-test .taken),
       ends-within (l .n) (o .n) (m .result) _ e (m .ensures) (o .inv .1),
       part-done (s .args .rate) (instrumentsOf a) (a .counts) (i .before .before .least2 .result) (a .notes) {from = s .args .from} {covered₀ = 0} {all = placed (s .args .rate) a} {out₀ = s .args .out .now} 16 2048 (a .parts) (counts-16 s) (notes-2048 s)
           (i .before .before .least2 .ensures) (o .p) (o .n) (m .result) (l .n) (l .at) (o .covered) (l .covered) (o .out) (l .out) (i .loop-test .taken) (o .inv .1) (m .ensures) e (o .inv .2) (l .inv .2),
@@ -317,7 +285,7 @@ returns c =
     let s = c .before .before .before .before .before in
     let a = s .args .t1 in
     let l = c .before .loop in
-    let e : l .p ≡ c .before .before .least2 .result = meets (l .p) (c .before .before .least2 .result) (l .inv .0) (c .loop-test .left) in
+    let e : l .p ≡ c .before .before .least2 .result = meets (c .before .before .least2 .result) (l .p) (l .inv .0) (c .loop-test .left) in
     going-end (going-same (parts-end (s .args .rate) (instrumentsOf a) (a .counts) _ (a .notes) (l .p) (l .n) e) (l .inv .2))
 
 pub mix-spec : {M : Type 1} → statement M

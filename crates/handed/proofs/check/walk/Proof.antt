@@ -8,7 +8,7 @@ use native.Mathlib.Omega.{arith}
 use lib.ListN.{length, take, getD, length-map}
 use lib.Ieee.{nan}
 use lib.Dec.{lit≤}
-use borrow.Author.Needs.{needs, scaled-fits}
+use borrow.Author.Needs.{needs}
 use borrow.Author.Tests.{not-true, not-false}
 use mir.Syntax.{w64}
 use mir.Val.{Fits}
@@ -19,6 +19,7 @@ use Rattle.sheet.specs.Parts.{countsOf, total, instrumentsOf, releasesOf, lengt
 use Rattle.sheet.proofs.Basics.{false-true}
 use Rattle.handed.specs.Check.{all, notePasses}
 use Rattle.handed.proofs.Cuts.{take-cut}
+use Rattle.handed.proofs.Turns.{less, more, meets, below, small-place, under, fewer, fewer-parts, in-all, ends-within, sum-fits, at-next}
 use Rattle.handed.proofs.Releases.{instruments-are, release-is}
 use Rattle.handed.proofs.Notes.{note-is}
 use Rattle.handed.proofs.Ends.{fromPart, fromNote, part-begins, part-ends, parts-end, note-ends}
@@ -62,45 +63,9 @@ notes-2048 c = sym (length-map (c .args .t1 .notes) _) ∙ c .good .0 .1 .1 .1 .
 table-32 : (c : tie.Start Inv-loop2 μ-loop2 Inv-loop μ-loop) → length (c .args .t1 .table) ≡ 32
 table-32 c = sym (length-map (c .args .t1 .table) _) ∙ c .good .0 .1 .1 .1 .1 .1 .1 .0 .1 .0 .1
 
--- what a place, a time and a step ask for, over plain numbers
-less : (a b : ℕ) → b < a → a - (b + 1) < a - b
-less a b h = omega arith
-
-more : (a b : ℕ) → b < a → b + 1 ≤ a
-more a b h = omega arith
-
-meets : (a b : ℕ) → b ≤ a → a ≤ b → b ≡ a
-meets a b h l = omega arith
-
-below : (n most : ℕ) → n < most → most ≤ 4096 → Fits w64 (n + 1)
-below n most h m = omega arith
-
-small-place : (i most size : ℕ) → i < most → most * size ≤ 131072 → Fits w64 (i * size)
-small-place i most size h m = scaled-fits i most size h (omega arith)
-
-under : (k n most : ℕ) → k ≡ min n most → k < most + 1
-under k n most e = omega arith
-
-fewer : (p parts counted : ℕ) → p < parts → parts ≡ min counted 16 → p < 16
-fewer p parts counted h e = omega arith
-
-in-all : (n stop : ℕ) → n < stop → stop ≤ 2048 → n < 2048
-in-all n stop h l = omega arith
-
-ends-within : (m n d count : ℕ) → m ≡ n + d → d ≡ min count (2048 - n) → n ≤ 2048 → m ≤ 2048
-ends-within m n d count e f h = omega arith
-
-fewer-parts : (parts counted room : ℕ) → parts ≡ min counted 16 → room ≡ 16 → parts ≤ room
-fewer-parts parts counted room e f = omega arith
-
-sum-fits : (n d count : ℕ) → d ≡ min count (2048 - n) → n ≤ 2048 → Fits w64 (n + d)
-sum-fits n d count e h = omega arith
-
+-- where a note ends, over plain numbers
 end-fits : (at k n stop : ℕ) → at ≤ n * 16777216 → n < stop → stop ≤ 2048 → k ≤ 16777216 → Fits w64 (at + k)
 end-fits at k n stop h m l i = omega arith
-
-at-next : (n at k : ℕ) → at ≤ n * 16777216 → k ≤ 16777216 → at + k ≤ (n + 1) * 16777216
-at-next n at k h m = omega arith
 
 from-none : (a l : ℕ) → a ≡ l → max 0 a ≡ l
 from-none a l e = omega arith
