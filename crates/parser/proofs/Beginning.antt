@@ -56,7 +56,7 @@ module _ (b : Block) (fs : List Float) (ss : List ℕ) (e : blockOutcome 1 b fs 
   plain-lines = same-given _ _ (sym (block-going 1 b fs ss plain-accepted) ∙ e)
 
 module _ (zs : List ℕ) (xs : List Float) (ss zs′ : List ℕ) (xs′ : List Float) (ss′ : List ℕ) (rs rs′ : List Float) (b : Block)
-    (lz : length zs ≡ 32) (lx : length xs′ ≡ 6176) (ls : length ss′ ≡ 2144) (lr : length rs ≡ 32) (q : Blocked written 0 0 b xs ss xs′ ss′) where
+    (lz : length zs ≡ 32) (lx : length xs′ ≡ 6176) (ls : length ss′ ≡ 2272) (lr : length rs ≡ 32) (q : Blocked written 0 0 b xs ss xs′ ss′) where
   abbrev fs : List Float
   fs = region 192 0 xs′
 
@@ -94,12 +94,12 @@ module _ (zs : List ℕ) (xs : List Float) (ss zs′ : List ℕ) (xs′ : List F
   default-kept e f = (default-lines (e default-accepted), default-release (f default-accepted))
 
 -- in the columns
-pub default-columns : (b : Block) (xs : List Float) (ss : List ℕ) (xs′ : List Float) (ss′ : List ℕ) → length xs ≡ 6176 → length ss ≡ 2144 → length xs′ ≡ 6176 → length ss′ ≡ 2144
+pub default-columns : (b : Block) (xs : List Float) (ss : List ℕ) (xs′ : List Float) (ss′ : List ℕ) → length xs ≡ 6176 → length ss ≡ 2272 → length xs′ ≡ 6176 → length ss′ ≡ 2272
     → Kept written 0 0 b xs ss xs′ ss′
     → (linesFrom (sizeColumn ss′) xs′ ss′ 0 1 ≡ plain ∷ []) × (take 1 (releaseColumn xs′) ≡ releaseOf plain ∷ [])
 default-columns b xs ss xs′ ss′ lx lss kx ks q =
     default-kept (sizeColumn ss) xs ss (sizeColumn ss′) xs′ ss′ (releaseColumn xs) (releaseColumn xs′) b
-    (region-wide 32 66 ss (omega (arith, lss))) kx ks (region-wide 32 192 xs (omega (arith, lx))) (q .block) (q .sizes) (q .releases)
+    (region-wide 32 70 ss (omega (arith, lss))) kx ks (region-wide 32 192 xs (omega (arith, lx))) (q .block) (q .sizes) (q .releases)
 
 -- ---- nothing else
 
@@ -124,35 +124,35 @@ module _ (s : List ℕ) (fs : List Float) (is ls : List ℕ) where
         loops-length = ll;
       }
 
-  module _ (ms bs : List ℕ) (xs : List Float) (ss : List ℕ) (d : linesFrom (sizeColumn ss) xs ss 0 1 ≡ plain ∷ []) where
-    nothing-tabled : length ms ≡ 128 → length bs ≡ 128 → length xs ≡ 6176 → length ss ≡ 2144 → take 1 (releaseColumn xs) ≡ releaseOf plain ∷ []
-        → Tabled nothingSofar (tablesIn ms bs xs ss)
+  module _ (bs : List ℕ) (xs : List Float) (ss : List ℕ) (d : linesFrom (sizeColumn ss) xs ss 0 1 ≡ plain ∷ []) where
+    nothing-tabled : length bs ≡ 128 → length xs ≡ 6176 → length ss ≡ 2272 → take 1 (releaseColumn xs) ≡ releaseOf plain ∷ []
+        → Tabled nothingSofar (tablesIn bs xs ss)
     unfolding nothingSofar
-    nothing-tabled lm lb lx lss e =
+    nothing-tabled lb lx lss e =
         record {
           macros-few = omega arith;
           instruments-few = omega arith;
-          macros-length = lm;
+          macros-length = region-wide 128 16 ss (omega (arith, lss));
           bodies-length = lb;
-          names-length = region-wide 64 32 ss (omega (arith, lss));
-          sizes-length = region-wide 32 66 ss (omega (arith, lss));
+          names-length = region-wide 64 34 ss (omega (arith, lss));
+          sizes-length = region-wide 32 70 ss (omega (arith, lss));
           numbers-length = lx;
           shape-length = lss;
           releases-length = region-wide 32 192 xs (omega (arith, lx));
           releases = e ∙ sym (ap (map releaseOf) d);
         }
 
-    nothing-read : readIn s (placeColumn ls) nothingSofar fs is ls (tablesIn ms bs xs ss) ≡ nothingRead
+    nothing-read : readIn s (placeColumn ls) nothingSofar fs is ls (tablesIn bs xs ss) ≡ nothingRead
     unfolding nothingSofar readIn nothingRead partsFrom macrosIn namesIn
     nothing-read = ap (λ (l : List (List Line)). record { start = atTheStart; parts = []; macros = []; names = []; instruments = l; steps = 0 }) d
 
     -- what the walk asks of where it begins
     pub begins : (r : Sofar) → r ≡ nothingSofar → length s ≤ 32768 → length fs ≡ 98304 → length is ≡ 32768 → length ls ≡ 288
-        → length ms ≡ 128 → length bs ≡ 128 → length xs ≡ 6176 → length ss ≡ 2144 → take 1 (releaseColumn xs) ≡ releaseOf plain ∷ []
+        → length bs ≡ 128 → length xs ≡ 6176 → length ss ≡ 2272 → take 1 (releaseColumn xs) ≡ releaseOf plain ∷ []
         → (length s ≤ 32768)
-        × ((r .refusal ≡ 0) × ((r .at ≡ 0) × ((r .line ≡ 1) × (Fits (placeColumn ls) r fs is ls × Tabled r (tablesIn ms bs xs ss)))))
+        × ((r .refusal ≡ 0) × ((r .at ≡ 0) × ((r .line ≡ 1) × (Fits (placeColumn ls) r fs is ls × Tabled r (tablesIn bs xs ss)))))
     unfolding nothingSofar
-    begins r e small lf li ll lm lb lx lss t = (
+    begins r e small lf li ll lb lx lss t = (
       small,
       (
         ap (λ (x : Sofar). x .refusal) e,
@@ -162,12 +162,12 @@ module _ (s : List ℕ) (fs : List Float) (is ls : List ℕ) where
             ap (λ (x : Sofar). x .line) e,
             (
               subst (λ (x : Sofar). Fits (placeColumn ls) x fs is ls) (sym e) (nothing-fits lf li ll),
-              subst (λ (x : Sofar). Tabled x (tablesIn ms bs xs ss)) (sym e) (nothing-tabled lm lb lx lss t),
+              subst (λ (x : Sofar). Tabled x (tablesIn bs xs ss)) (sym e) (nothing-tabled lb lx lss t),
             ),
           ),
         ),
       ),
     )
 
-    pub begun-read : (r : Sofar) → r ≡ nothingSofar → readIn s (placeColumn ls) r fs is ls (tablesIn ms bs xs ss) ≡ nothingRead
-    begun-read r e = ap (λ (x : Sofar). readIn s (placeColumn ls) x fs is ls (tablesIn ms bs xs ss)) e ∙ nothing-read
+    pub begun-read : (r : Sofar) → r ≡ nothingSofar → readIn s (placeColumn ls) r fs is ls (tablesIn bs xs ss) ≡ nothingRead
+    begun-read r e = ap (λ (x : Sofar). readIn s (placeColumn ls) x fs is ls (tablesIn bs xs ss)) e ∙ nothing-read

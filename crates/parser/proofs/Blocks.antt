@@ -24,7 +24,7 @@ room-read : (line : ℕ) (below : List ℕ) (m n : ℕ) → m ≡ 192 → n ≡ 
 unfolding blockRead
 room-read line below m n e f = rw (le-leb 192 m (omega (arith, e)), le-leb 64 n (omega (arith, f)), blockRead)
 
-module _ (s : List ℕ) (at i : ℕ) (b : Block) (fs : List Float) (ss : List ℕ) (ys : List Float) (zs : List ℕ) (h : i < 32) (lf : length fs ≡ 6176) (ls : length ss ≡ 2144) (ky : length ys ≡ length (lent 192 i fs)) (kz : length zs ≡ length (lent 64 i ss)) where
+module _ (s : List ℕ) (at i : ℕ) (b : Block) (fs : List Float) (ss : List ℕ) (ys : List Float) (zs : List ℕ) (h : i < 32) (lf : length fs ≡ 6176) (ls : length ss ≡ 2272) (ky : length ys ≡ length (lent 192 i fs)) (kz : length zs ≡ length (lent 64 i ss)) where
   wide : length (lent 192 i fs) ≡ 192
   wide = ap length (lent-region 192 i fs) ∙ region-wide 192 i fs (omega (arith, h, lf))
 
@@ -58,28 +58,31 @@ module _ (s : List ℕ) (at i : ℕ) (b : Block) (fs : List Float) (ss : List �
   -- what stands behind the regions of all instruments is as before
   pub blocked-beside : Aside ss (back 64 i ss zs) fs (back 192 i fs ys)
   blocked-beside = (
-    after-lent 64 i ss zs (omega (arith, h, ls)) lz 64 32 (omega (arith, h)),
-    (after-lent 64 i ss zs (omega (arith, h, ls)) lz 32 66 (omega (arith, h)), after-lent 192 i fs ys (omega (arith, h, lf)) ly 32 192 (omega (arith, h))),
+    after-lent 64 i ss zs (omega (arith, h, ls)) lz 128 16 (omega (arith, h)),
+    (
+      after-lent 64 i ss zs (omega (arith, h, ls)) lz 64 34 (omega (arith, h)),
+      (after-lent 64 i ss zs (omega (arith, h, ls)) lz 32 70 (omega (arith, h)), after-lent 192 i fs ys (omega (arith, h, lf)) ly 32 192 (omega (arith, h))),
+    ),
   )
 
 -- ---- the instrument that they are kept as
 
 module _ (s : List ℕ) (at i : ℕ) (b : Block) (fs : List Float) (ss : List ℕ) (fs′ : List Float) (ss′ : List ℕ) (q : Blocked s at i b fs ss fs′ ss′) (c : Aside ss ss′ fs fs′) where
   pub kept-refused : (b .refusal ≡ 0 → ⊥) → Kept s at i b fs ss fs′ ss′
-  kept-refused n = record { block = q; names = c .0; sizes = λ z. absurd (n z); releases = λ z. absurd (n z) }
+  kept-refused n = record { block = q; macros = c .0; names = c .1 .0; sizes = λ z. absurd (n z); releases = λ z. absurd (n z) }
 
   module _ (h : i < 32) (x : Float) (e : x ≡ releaseOf (linesHeld (b .count) (region 192 i fs′) (region 64 i ss′))) where
     abbrev gs : List Float
     gs = set fs′ (6144 + i) x
 
     abbrev ts : List ℕ
-    ts = set ss′ (2112 + i) (b .count)
+    ts = set ss′ (2240 + i) (b .count)
 
     numbers-same : (j : ℕ) → j < 32 → region 192 j gs ≡ region 192 j fs′
     numbers-same j l = region-before 192 j fs′ (6144 + i) x (omega (arith, l))
 
     shape-same : (j : ℕ) → j < 32 → region 64 j ts ≡ region 64 j ss′
-    shape-same j l = region-before 64 j ss′ (2112 + i) (b .count) (omega (arith, l))
+    shape-same j l = region-before 64 j ss′ (2240 + i) (b .count) (omega (arith, l))
 
     pub kept-stored : Kept s at i b fs ss gs ts
     kept-stored =
@@ -93,10 +96,11 @@ module _ (s : List ℕ) (at i : ℕ) (b : Block) (fs : List Float) (ss : List �
             numbers = λ j l n. numbers-same j l ∙ q .numbers j l n;
             shape = λ j l n. shape-same j l ∙ q .shape j l n;
           };
-          names = region-before 64 32 ss′ (2112 + i) (b .count) (omega arith) ∙ c .0;
-          sizes = λ z. region-set 32 66 ss′ i (b .count) h ∙ ap (λ (zs : List ℕ). set zs i (b .count)) (c .1 .0);
+          macros = region-before 128 16 ss′ (2240 + i) (b .count) (omega arith) ∙ c .0;
+          names = region-before 64 34 ss′ (2240 + i) (b .count) (omega arith) ∙ c .1 .0;
+          sizes = λ z. region-set 32 70 ss′ i (b .count) h ∙ ap (λ (zs : List ℕ). set zs i (b .count)) (c .1 .1 .0);
           releases = λ z.
               region-set 32 192 fs′ i x h
-              ∙ ap₂ (λ (ys : List Float) (y : Float). set ys i y) (c .1 .1)
+              ∙ ap₂ (λ (ys : List Float) (y : Float). set ys i y) (c .1 .1 .1)
               (e ∙ ap₂ (λ (y : List Float) (l : List ℕ). releaseOf (linesHeld (b .count) y l)) (sym (numbers-same i h)) (sym (shape-same i h)));
         }

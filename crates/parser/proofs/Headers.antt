@@ -30,10 +30,10 @@ use Rattle.tables.proofs.NamesGrown.{names-grown}
 use Rattle.tables.proofs.Taken.{names-many}
 use Rattle.parser.specs.declared.sofar.Sofar.{Sofar}
 use Rattle.meaning.specs.Sheets.{Read, readOf, headerRead}
-use Rattle.parser.specs.Columns.{Tables, tablesOf, nameColumn, sizeColumn, releaseColumn, tablesIn, readIn, Fits, Tabled, Begins, Goes, Blocked, Kept, refusedAt, passedTo}
+use Rattle.parser.specs.Columns.{Tables, tablesOf, macroColumn, nameColumn, sizeColumn, releaseColumn, tablesIn, readIn, Fits, Tabled, Begins, Goes, Blocked, Kept, refusedAt, passedTo}
 use Rattle.parser.proofs.Numbers.{At, header-at, at-refused, at-number, number-of}
 use Rattle.parser.proofs.Going.{lined, read-going, goes-refused, fits-passed}
-use Rattle.parser.proofs.Pieces.{after-lent}
+use Rattle.parser.proofs.Pieces.{before-lent, after-lent}
 use Rattle.parser.proofs.ReadLines.{OfLines, all-of-lines, lines-length, held-whole}
 
 -- ---- instruments in their regions
@@ -48,7 +48,7 @@ lines-snoc zs fs ss (suc n) k =
     ∙ ap (λ (j : ℕ). linesFrom zs fs ss (k + 1) n ++ (linesAt zs fs ss j ∷ [])) (let z : k + 1 + n ≡ k + suc n = omega arith in z))
 
 -- only the lines of these instruments matter
-lines-same : (zs : List ℕ) (fs : List Float) (ss zs′ : List ℕ) (fs′ : List Float) (ss′ : List ℕ) (n k : ℕ)
+pub lines-same : (zs : List ℕ) (fs : List Float) (ss zs′ : List ℕ) (fs′ : List Float) (ss′ : List ℕ) (n k : ℕ)
     → ((j : ℕ) → j < k + n → linesAt zs fs ss j ≡ linesAt zs′ fs′ ss′ j) → linesFrom zs fs ss k n ≡ linesFrom zs′ fs′ ss′ k n
 unfolding linesFrom
 lines-same zs fs ss zs′ fs′ ss′ zero k h = refl
@@ -288,35 +288,35 @@ module _ (s places : List ℕ) (r : Sofar) (fs : List Float) (is ls ms bs ns zs 
 -- ---- the header in the columns
 
 -- the names are lent, and what comes back is as long
-module _ (ss : List ℕ) (ls : length ss ≡ 2144) where
-  room : 64 * 32 + 64 ≤ length ss
+module _ (ss : List ℕ) (ls : length ss ≡ 2272) where
+  room : 64 * 34 + 64 ≤ length ss
   room = omega (arith, ls)
 
-  pub names-long : length (lent 64 32 ss) ≡ 64
-  names-long = ap length (lent-region 64 32 ss) ∙ region-wide 64 32 ss room
+  pub names-long : length (lent 64 34 ss) ≡ 64
+  names-long = ap length (lent-region 64 34 ss) ∙ region-wide 64 34 ss room
 
-  pub names-back : (ys : List ℕ) → length ys ≡ length (lent 64 32 ss) → length (back 64 32 ss ys) ≡ length ss
-  names-back ys h = back-length 64 32 ss ys room (h ∙ names-long)
+  pub names-back : (ys : List ℕ) → length ys ≡ length (lent 64 34 ss) → length (back 64 34 ss ys) ≡ length ss
+  names-back ys h = back-length 64 34 ss ys room (h ∙ names-long)
 
-module _ (s places : List ℕ) (r : Sofar) (fs : List Float) (is ls ms bs : List ℕ) (xs : List Float) (ss : List ℕ) (end next n : ℕ) (b : Begins s r end next) (w : Fits places r fs is ls) (g : Tabled r (tablesIn ms bs xs ss)) (e : n ≡ numberOf (headerLine (r .line) s (r .at) end (r .instruments) (lent 64 32 ss))) where
+module _ (s places : List ℕ) (r : Sofar) (fs : List Float) (is ls bs : List ℕ) (xs : List Float) (ss : List ℕ) (end next n : ℕ) (b : Begins s r end next) (w : Fits places r fs is ls) (g : Tabled r (tablesIn bs xs ss)) (e : n ≡ numberOf (headerLine (r .line) s (r .at) end (r .instruments) (lent 64 34 ss))) where
   abbrev Came : Sofar → Tables → Type 0
   Came q u =
-      Goes (headerRead (r .line) (lineOf (drop (r .at) s)) (linesOf (drop next s)) (readIn s places r fs is ls (tablesIn ms bs xs ss))) (1 + length (operatorLines (linesOf (drop next s)))) s places r q fs is ls u
+      Goes (headerRead (r .line) (lineOf (drop (r .at) s)) (linesOf (drop next s)) (readIn s places r fs is ls (tablesIn bs xs ss))) (1 + length (operatorLines (linesOf (drop next s)))) s places r q fs is ls u
 
   told : n ≡ numberOf (headerLine (r .line) s (r .at) end (r .instruments) (nameColumn ss))
   unfolding region
   told = e
 
   pub column-refuses : (u : Tables) → (n ≡ 0 → ⊥) → Came (refusedAt r n (r .line)) u
-  column-refuses u z = header-refuses s places r fs is ls ms bs (nameColumn ss) (sizeColumn ss) xs ss (releaseColumn xs) end next n b w g u told z
+  column-refuses u z = header-refuses s places r fs is ls (macroColumn ss) bs (nameColumn ss) (sizeColumn ss) xs ss (releaseColumn xs) end next n b w g u told z
 
-  headers : (ys : List ℕ) → ys ≡ headersAfter (headerLine (r .line) s (r .at) end (r .instruments) (lent 64 32 ss)) s (r .at) end (r .instruments) (lent 64 32 ss)
+  headers : (ys : List ℕ) → ys ≡ headersAfter (headerLine (r .line) s (r .at) end (r .instruments) (lent 64 34 ss)) s (r .at) end (r .instruments) (lent 64 34 ss)
       → ys ≡ headersAfter (headerLine (r .line) s (r .at) end (r .instruments) (nameColumn ss)) s (r .at) end (r .instruments) (nameColumn ss)
   unfolding region
   headers ys h = h
 
-  module _ (z : n ≡ 0) (ys : List ℕ) (long : length ys ≡ length (lent 64 32 ss)) (k : Block) (xs′ : List Float) (ss′ : List ℕ) (q : Kept s next (r .instruments + 1) k xs (back 64 32 ss ys) xs′ ss′) where
-    wide : 64 * 32 + 64 ≤ length ss
+  module _ (z : n ≡ 0) (ys : List ℕ) (long : length ys ≡ length (lent 64 34 ss)) (k : Block) (xs′ : List Float) (ss′ : List ℕ) (q : Kept s next (r .instruments + 1) k xs (back 64 34 ss ys) xs′ ss′) where
+    wide : 64 * 34 + 64 ≤ length ss
     wide = room ss (g .shape-length)
 
     as-long : length ys ≡ 64
@@ -332,16 +332,20 @@ module _ (s places : List ℕ) (r : Sofar) (fs : List Float) (is ls ms bs : List
           onward = c .onward;
           inside = c .inside;
           numbers = c .numbers;
-          shape = λ j l no. c .shape j l no ∙ back-beside 64 32 ss ys wide as-long j (λ v. omega (arith, l, v));
+          shape = λ j l no. c .shape j l no ∙ back-beside 64 34 ss ys wide as-long j (λ v. omega (arith, l, v));
         }
 
     pub column-block-refuses : (u : Tables) → (k .refusal ≡ 0 → ⊥) → Came (refusedAt r (k .refusal) (r .line + 1 + k .count)) u
-    column-block-refuses u y = block-refuses s places r fs is ls ms bs (nameColumn ss) (sizeColumn ss) xs ss (releaseColumn xs) end next n b w g told z k xs′ ss′ blocked u y
+    column-block-refuses u y = block-refuses s places r fs is ls (macroColumn ss) bs (nameColumn ss) (sizeColumn ss) xs ss (releaseColumn xs) end next n b w g told z k xs′ ss′ blocked u y
 
-    pub column-goes : k .refusal ≡ 0 → length xs′ ≡ length xs → length ss′ ≡ length ss → ys ≡ headersAfter (headerLine (r .line) s (r .at) end (r .instruments) (lent 64 32 ss)) s (r .at) end (r .instruments) (lent 64 32 ss)
-        → Came (passedTo r (r .macros) (r .instruments + 1) (r .line + 1 + k .count) (k .next)) (tablesIn ms bs xs′ ss′)
+    pub column-goes : k .refusal ≡ 0 → length xs′ ≡ length xs → length ss′ ≡ length ss → ys ≡ headersAfter (headerLine (r .line) s (r .at) end (r .instruments) (lent 64 34 ss)) s (r .at) end (r .instruments) (lent 64 34 ss)
+        → Came (passedTo r (r .macros) (r .instruments + 1) (r .line + 1 + k .count) (k .next)) (tablesIn bs xs′ ss′)
     column-goes y lx ly en =
-        let named : nameColumn ss′ ≡ ys = q .names ∙ back-here 64 32 ss ys wide as-long in
-        header-goes s places r fs is ls ms bs (nameColumn ss) (sizeColumn ss) xs ss (releaseColumn xs) end next n b w g told z k xs′ ss′ blocked y lx ly
-        (nameColumn ss′) (releaseColumn xs′) (ap length named ∙ long ∙ ap length (lent-region 64 32 ss)) (named ∙ headers ys en) (q .releases y)
-        (sizeColumn ss′) (q .sizes y ∙ ap (λ (zs : List ℕ). set zs (r .instruments + 1) (k .count)) (after-lent 64 32 ss ys wide as-long 32 66 (omega arith)))
+        let named : nameColumn ss′ ≡ ys = q .names ∙ back-here 64 34 ss ys wide as-long in
+        let macros : macroColumn ss ≡ macroColumn ss′ = sym (q .macros ∙ before-lent 64 34 ss ys wide as-long 128 16 (omega arith)) in
+        subst
+        (λ (ms : List ℕ). Came (passedTo r (r .macros) (r .instruments + 1) (r .line + 1 + k .count) (k .next)) (tablesOf ms bs (nameColumn ss′) (sizeColumn ss′) xs′ ss′ (releaseColumn xs′)))
+        macros
+        (header-goes s places r fs is ls (macroColumn ss) bs (nameColumn ss) (sizeColumn ss) xs ss (releaseColumn xs) end next n b w g told z k xs′ ss′ blocked y lx ly
+        (nameColumn ss′) (releaseColumn xs′) (ap length named ∙ long ∙ ap length (lent-region 64 34 ss)) (named ∙ headers ys en) (q .releases y)
+        (sizeColumn ss′) (q .sizes y ∙ ap (λ (zs : List ℕ). set zs (r .instruments + 1) (k .count)) (after-lent 64 34 ss ys wide as-long 32 70 (omega arith))))

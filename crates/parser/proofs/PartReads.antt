@@ -19,7 +19,7 @@ use Rattle.layout.specs.Layout.{linesFrom}
 use Rattle.parser.specs.declared.sofar.Sofar.{Sofar}
 use Rattle.meaning.specs.Parts.{Played, linePlayed}
 use Rattle.meaning.specs.Sheets.{Read, readOf, bookOf, partRead}
-use Rattle.parser.specs.Columns.{nameColumn, releaseColumn, placeColumn, Tables, tablesOf, partsFrom, playedIn, playedOutcome, readIn, Fits, Tabled, Begins, Goes, Came, passedTo}
+use Rattle.parser.specs.Columns.{macroColumn, nameColumn, releaseColumn, placeColumn, Tables, tablesOf, partsFrom, playedIn, playedOutcome, readIn, Fits, Tabled, Begins, Goes, Came, passedTo}
 use Rattle.parser.specs.PartSteps.{Passed, bodyAt, BodyCame}
 use Rattle.parser.proofs.Pieces.{region-front}
 use Rattle.parser.proofs.Going.{lined, goes-as, goes-ended, goes-on, fits-passed, tabled-as}
@@ -49,16 +49,17 @@ pub first-places : (s name ls : List ℕ) (n k : ℕ) → n ≤ 16 → k ≡ pla
 first-places s name ls n k h e = e ∙ ap (λ (ps : List ℕ). placeAmong name (namesIn s ps)) (region-front 32 8 ls 256 (2 * n) refl (omega (arith, h)))
 
 -- a body that is read with what is lent of the columns
-module _ (rate : ℕ) (s ms bs : List ℕ) (xs : List Float) (ss : List ℕ) (r : Sofar) (few : r .instruments + 1 ≤ 32) (line : ℕ) (text : List ℕ) (k : ℕ) (st q : State) (fs : List Float) (is ls : List ℕ) (gs : List Float) (js ns : List ℕ) where
-  abbrev ReadBy : List ℕ → List Float → Type 0
-  ReadBy names releases =
-      BodyCame (bodyAt (bookIn rate s (take (2 * r .macros) ms) (take (2 * r .macros) bs) names releases) line text k st fs is ls) k st q fs is ls gs js ns
+module _ (rate : ℕ) (s bs : List ℕ) (xs : List Float) (ss : List ℕ) (r : Sofar) (most : r .macros ≤ 64) (few : r .instruments + 1 ≤ 32) (line : ℕ) (text : List ℕ) (k : ℕ) (st q : State) (fs : List Float) (is ls : List ℕ) (gs : List Float) (js ns : List ℕ) where
+  abbrev ReadBy : List ℕ → List ℕ → List Float → Type 0
+  ReadBy macros names releases =
+      BodyCame (bodyAt (bookIn rate s macros (take (2 * r .macros) bs) names releases) line text k st fs is ls) k st q fs is ls gs js ns
 
-  pub body-as : ReadBy (take (2048 + 2 * r .instruments - 2048) (drop 2048 ss)) (take (6144 + (r .instruments + 1) - 6144) (drop 6144 xs))
-      → ReadBy (take (2 * r .instruments) (nameColumn ss)) (take (r .instruments + 1) (releaseColumn xs))
+  pub body-as : ReadBy (take (2048 + 2 * r .macros - 2048) (drop 2048 ss)) (take (2176 + 2 * r .instruments - 2176) (drop 2176 ss)) (take (6144 + (r .instruments + 1) - 6144) (drop 6144 xs))
+      → ReadBy (take (2 * r .macros) (macroColumn ss)) (take (2 * r .instruments) (nameColumn ss)) (take (r .instruments + 1) (releaseColumn xs))
   body-as h =
-      subst (λ (v : List Float). ReadBy (take (2 * r .instruments) (nameColumn ss)) v) (region-front 32 192 xs 6144 (r .instruments + 1) refl (omega (arith, few)))
-      (subst (λ (v : List ℕ). ReadBy v (take (6144 + (r .instruments + 1) - 6144) (drop 6144 xs))) (region-front 64 32 ss 2048 (2 * r .instruments) refl (omega (arith, few))) h)
+      subst (λ (v : List Float). ReadBy (take (2 * r .macros) (macroColumn ss)) (take (2 * r .instruments) (nameColumn ss)) v) (region-front 32 192 xs 6144 (r .instruments + 1) refl (omega (arith, few)))
+      (subst (λ (v : List ℕ). ReadBy (take (2 * r .macros) (macroColumn ss)) v (take (6144 + (r .instruments + 1) - 6144) (drop 6144 xs))) (region-front 64 34 ss 2176 (2 * r .instruments) refl (omega (arith, few)))
+      (subst (λ (v : List ℕ). ReadBy v (take (2176 + 2 * r .instruments - 2176) (drop 2176 ss)) (take (6144 + (r .instruments + 1) - 6144) (drop 6144 xs))) (region-front 128 16 ss 2048 (2 * r .macros) refl (omega (arith, most))) h))
 
 -- ---- the line
 

@@ -14,26 +14,26 @@ use Rattle.part.specs.Body.{Book}
 use Rattle.part.specs.Columns.{bookIn}
 use Rattle.meaning.specs.Sheets.{partRead}
 use Rattle.parser.specs.declared.sofar.Sofar.{Sofar}
-use Rattle.parser.specs.Columns.{nameColumn, sizeColumn, releaseColumn, placeColumn, tablesIn, readIn, Fits, Tabled, Begins, Goes, Came, refusedAt, passedTo}
+use Rattle.parser.specs.Columns.{macroColumn, nameColumn, sizeColumn, releaseColumn, placeColumn, tablesIn, readIn, Fits, Tabled, Begins, Goes, Came, refusedAt, passedTo}
 use Rattle.parser.specs.PartSteps.{withPart, NamedAt, Passed, LinePassed}
 use Rattle.parser.proofs.Going.{lined, line-small}
 use Rattle.parser.proofs.PartLines.{StepCame, step-bare, step-full, step-known}
 use Rattle.parser.proofs.PartReads.{part-passed}
 
-module _ (rate : ℕ) (s ms bs : List ℕ) (xs : List Float) (ss : List ℕ) (r : Sofar) (fs : List Float) (is ls : List ℕ) (end next : ℕ) (b : Begins s r end next) (g : Fits (placeColumn ls) r fs is ls) (t : Tabled r (tablesIn ms bs xs ss)) (p : NameAt) (e : p ≡ nameAt (between s (r .at) end)) where
+module _ (rate : ℕ) (s bs : List ℕ) (xs : List Float) (ss : List ℕ) (r : Sofar) (fs : List Float) (is ls : List ℕ) (end next : ℕ) (b : Begins s r end next) (g : Fits (placeColumn ls) r fs is ls) (t : Tabled r (tablesIn bs xs ss)) (p : NameAt) (e : p ≡ nameAt (between s (r .at) end)) where
   abbrev l : List ℕ
   l = between s (r .at) end
 
   abbrev book : Book
-  book = bookIn rate s (take (2 * r .macros) ms) (take (2 * r .macros) bs) (take (2 * r .instruments) (nameColumn ss)) (take (r .instruments + 1) (releaseColumn xs))
+  book = bookIn rate s (take (2 * r .macros) (macroColumn ss)) (take (2 * r .macros) bs) (take (2 * r .instruments) (nameColumn ss)) (take (r .instruments + 1) (releaseColumn xs))
 
   abbrev Gone : List ℕ → Sofar → List Float → List ℕ → List ℕ → Type 0
   Gone places q fs′ is′ ls′ =
-      Goes (partRead rate (r .line) (namedOf (lineOf (drop (r .at) s))) (readIn s (placeColumn ls) r fs is ls (tablesIn ms bs xs ss))) 1 s places r q fs′ is′ ls′ (tablesIn ms bs xs ss)
+      Goes (partRead rate (r .line) (namedOf (lineOf (drop (r .at) s))) (readIn s (placeColumn ls) r fs is ls (tablesIn bs xs ss))) 1 s places r q fs′ is′ ls′ (tablesIn bs xs ss)
 
   gone : (places : List ℕ) (q : Sofar) (fs′ : List Float) (is′ ls′ : List ℕ) → StepCame book s (placeColumn ls) (r .at) end r fs is ls p e (namedOf l) places q fs′ is′ ls′
       → (u : Sofar) → Passed next q u → Gone places u fs′ is′ ls′
-  gone = part-passed rate s (placeColumn ls) r fs is ls ms bs (nameColumn ss) (sizeColumn ss) xs ss (releaseColumn xs) end next b t
+  gone = part-passed rate s (placeColumn ls) r fs is ls (macroColumn ss) bs (nameColumn ss) (sizeColumn ss) xs ss (releaseColumn xs) end next b t
 
   pub way-bare : p .two ≡ false → (q : Sofar) → q ≡ passedTo r (r .macros) (r .instruments) (r .line + 1) next → Gone (placeColumn ls) q fs is ls
   way-bare two q f =
@@ -53,7 +53,7 @@ module _ (rate : ℕ) (s ms bs : List ℕ) (xs : List Float) (ss : List ℕ) (r 
       pub way-asks : (k ≤ r .parts)
           × ((r .refusal ≡ 0)
           × ((r .line ≤ 2000000)
-          × ((k < withPart r k .parts) × (Fits (placeColumn ls′) (withPart r k) fs is ls′ × Tabled r (tablesIn ms bs xs ss)))))
+          × ((k < withPart r k .parts) × (Fits (placeColumn ls′) (withPart r k) fs is ls′ × Tabled r (tablesIn bs xs ss)))))
       way-asks =
           let known = step-known book s (r .at) end r fs is ls p e two g k found room (lined s r end next b .from) ls′ w long in
           (known .0, (b .goes, (line-small s r end next b, (known .1 .0, (known .1 .1 .1 .1 .0, t)))))

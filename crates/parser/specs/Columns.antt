@@ -102,13 +102,16 @@ abbrev pub tablesOf : List ℕ → List ℕ → List ℕ → List ℕ → List F
 tablesOf ms bs ns zs fs ss rs =
     record { macros = ms; bodies = bs; names = ns; sizes = zs; numbers = fs; shape = ss; releases = rs }
 
--- Few columns are lent, so some hold more than one thing, each as a region: behind the shapes of all operator lines stand the instruments' names and then
--- their sizes, behind the numbers of all operator lines the releases, and behind the open loops of all parts the places of the parts' names.
+-- Few columns are lent, so some hold more than one thing, each as a region: behind the shapes of all operator lines stand the macros' names, the
+-- instruments' names and their sizes, behind the numbers of all operator lines the releases, and behind the open loops of all parts the places of the parts' names.
+abbrev pub macroColumn : List ℕ → List ℕ
+macroColumn = region (2 * macrosMost) 16
+
 abbrev pub nameColumn : List ℕ → List ℕ
-nameColumn = region (2 * instrumentsMost) 32
+nameColumn = region (2 * instrumentsMost) 34
 
 abbrev pub sizeColumn : List ℕ → List ℕ
-sizeColumn = region instrumentsMost 66
+sizeColumn = region instrumentsMost 70
 
 abbrev pub releaseColumn : List Float → List Float
 releaseColumn = region instrumentsMost 192
@@ -117,8 +120,8 @@ abbrev pub placeColumn : List ℕ → List ℕ
 placeColumn = region (2 * partsMost) 8
 
 -- the tables in the columns
-abbrev pub tablesIn : List ℕ → List ℕ → List Float → List ℕ → Tables
-tablesIn ms bs fs ss = tablesOf ms bs (nameColumn ss) (sizeColumn ss) fs ss (releaseColumn fs)
+abbrev pub tablesIn : List ℕ → List Float → List ℕ → Tables
+tablesIn bs fs ss = tablesOf (macroColumn ss) bs (nameColumn ss) (sizeColumn ss) fs ss (releaseColumn fs)
 
 module _ (s places : List ℕ) (r : Sofar) (fs : List Float) (is ls : List ℕ) (t : Tables) where
   -- what has been read so far
@@ -147,7 +150,7 @@ pub record Tabled (r : Sofar) (t : Tables) : Type 0 where
   pub names-length : length (t .names) ≡ 2 * instrumentsMost
   pub sizes-length : length (t .sizes) ≡ instrumentsMost
   pub numbers-length : length (t .numbers) ≡ 6 * operatorsMost * instrumentsMost + instrumentsMost
-  pub shape-length : length (t .shape) ≡ 2 * operatorsMost * instrumentsMost + 2 * instrumentsMost + instrumentsMost
+  pub shape-length : length (t .shape) ≡ 2 * operatorsMost * instrumentsMost + 2 * macrosMost + 2 * instrumentsMost + instrumentsMost
   pub releases-length : length (t .releases) ≡ instrumentsMost
   pub releases : take (r .instruments + 1) (t .releases) ≡ map releaseOf (linesFrom (t .sizes) (t .numbers) (t .shape) 0 (r .instruments + 1))
 
@@ -184,11 +187,13 @@ pub record Blocked (s : List ℕ) (at i : ℕ) (b : Block) (fs : List Float) (ss
 
 -- what stands beside operator lines in their columns is as before
 abbrev pub Aside : List ℕ → List ℕ → List Float → List Float → Type 0
-Aside ss ss′ fs fs′ = (nameColumn ss′ ≡ nameColumn ss) × ((sizeColumn ss′ ≡ sizeColumn ss) × (releaseColumn fs′ ≡ releaseColumn fs))
+Aside ss ss′ fs fs′ =
+    (macroColumn ss′ ≡ macroColumn ss) × ((nameColumn ss′ ≡ nameColumn ss) × ((sizeColumn ss′ ≡ sizeColumn ss) × (releaseColumn fs′ ≡ releaseColumn fs)))
 
 -- the same kept as the instrument i: with their number among the sizes and their release among the releases, and the names as before
 pub record Kept (s : List ℕ) (at i : ℕ) (b : Block) (fs : List Float) (ss : List ℕ) (fs′ : List Float) (ss′ : List ℕ) : Type 0 where
   pub block : Blocked s at i b fs ss fs′ ss′
+  pub macros : macroColumn ss′ ≡ macroColumn ss
   pub names : nameColumn ss′ ≡ nameColumn ss
   pub sizes : b .refusal ≡ 0 → sizeColumn ss′ ≡ set (sizeColumn ss) i (b .count)
   pub releases : b .refusal ≡ 0

@@ -121,8 +121,8 @@ pub(crate) fn finished(
     q: Sofar,
     rate: u32,
 ) -> Reading
-    requires { ⌜ (q .refusal ≡ 0 → (q .instruments + 1 ≤ 32) × ((length (now numbers) ≡ 6176) × (length (now shape) ≡ 2144))) ⌝ }
-    ensures { λ r. ⌜ ((s places ls ms bs : List ℕ) → (q .refusal ≡ 0 → Fits places q (now (floats .entry)) (now (bytes .entry)) ls) → (q .refusal ≡ 0 → Tabled q (tablesIn ms bs (now (numbers .entry)) (now (shape .entry)))) → r ≡ laidOut (readOutcome s places q (now (floats .entry)) (now (bytes .entry)) ls (tablesIn ms bs (now (numbers .entry)) (now (shape .entry))) then (λ x. ended rate x))) ⌝ }
+    requires { ⌜ (q .refusal ≡ 0 → (q .instruments + 1 ≤ 32) × ((length (now numbers) ≡ 6176) × (length (now shape) ≡ 2272))) ⌝ }
+    ensures { λ r. ⌜ ((s places ls bs : List ℕ) → (q .refusal ≡ 0 → Fits places q (now (floats .entry)) (now (bytes .entry)) ls) → (q .refusal ≡ 0 → Tabled q (tablesIn bs (now (numbers .entry)) (now (shape .entry)))) → r ≡ laidOut (readOutcome s places q (now (floats .entry)) (now (bytes .entry)) ls (tablesIn bs (now (numbers .entry)) (now (shape .entry))) then (λ x. ended rate x))) ⌝ }
 {
     if q.refusal != 0 {
         return refused_reading(q.refusal, q.line);
@@ -133,6 +133,6 @@ pub(crate) fn finished(
     if number != 0 {
         return refused_reading(number, 0);
     }
-    let sizes = &shape[2112..2144];
+    let sizes = &shape[2240..2272];
     laid(floats, bytes, numbers, shape, sizes, instruments, q)
 }

@@ -22,7 +22,7 @@ use tables::table::header_line;
 
 // The operator lines from place `at` on, in the regions of the instrument i.
 fn block_at(source: &[u8], at: usize, numbers: &mut [f32], shape: &mut [usize], i: usize) -> Block
-    requires { ⌜ (i < 32) × ((length (now numbers) ≡ 6176) × (length (now shape) ≡ 2144)) ⌝ }
+    requires { ⌜ (i < 32) × ((length (now numbers) ≡ 6176) × (length (now shape) ≡ 2272)) ⌝ }
     ensures block { λ b. ⌜ Blocked (now (source .entry)) at i b (now (numbers .entry)) (now (shape .entry)) (now (numbers .exit)) (now (shape .exit)) ⌝ }
     ensures aside { λ _. ⌜ Aside (now (shape .entry)) (now (shape .exit)) (now (numbers .entry)) (now (numbers .exit)) ⌝ }
 {
@@ -36,7 +36,7 @@ fn block_at(source: &[u8], at: usize, numbers: &mut [f32], shape: &mut [usize], 
 
 // The release of the instrument i, which has `size` operator lines.
 fn release_at(numbers: &[f32], shape: &[usize], i: usize, size: usize) -> f32
-    requires { ⌜ (i < 32) × ((length (now numbers) ≡ 6176) × (length (now shape) ≡ 2144)) ⌝ }
+    requires { ⌜ (i < 32) × ((length (now numbers) ≡ 6176) × (length (now shape) ≡ 2272)) ⌝ }
     ensures { λ x. ⌜ x ≡ releaseOf (linesHeld size (region 192 i (now (numbers .entry))) (region 64 i (now (shape .entry)))) ⌝ }
 {
     release_held(
@@ -48,7 +48,7 @@ fn release_at(numbers: &[f32], shape: &[usize], i: usize, size: usize) -> f32
 
 // The operator lines from place `at` on, kept as the instrument i with their number and its release.
 fn kept(source: &[u8], at: usize, numbers: &mut [f32], shape: &mut [usize], i: usize) -> Block
-    requires { ⌜ (i < 32) × ((length (now numbers) ≡ 6176) × (length (now shape) ≡ 2144)) ⌝ }
+    requires { ⌜ (i < 32) × ((length (now numbers) ≡ 6176) × (length (now shape) ≡ 2272)) ⌝ }
     ensures { λ b. ⌜ Kept (now (source .entry)) at i b (now (numbers .entry)) (now (shape .entry)) (now (numbers .exit)) (now (shape .exit)) ⌝ }
 {
     let b = block_at(source, at, numbers, shape, i);
@@ -56,14 +56,14 @@ fn kept(source: &[u8], at: usize, numbers: &mut [f32], shape: &mut [usize], i: u
         return b;
     }
     let release = release_at(numbers, shape, i, b.count);
-    shape[2112 + i] = b.count;
+    shape[2240 + i] = b.count;
     numbers[6144 + i] = release;
     b
 }
 
 // The default instrument, `1 1 0 0 1 0`, read as any other.
 pub(crate) fn default_instrument(numbers: &mut [f32], shape: &mut [usize])
-    requires { ⌜ (length (now numbers) ≡ 6176) × (length (now shape) ≡ 2144) ⌝ }
+    requires { ⌜ (length (now numbers) ≡ 6176) × (length (now shape) ≡ 2272) ⌝ }
     ensures lines { λ _. ⌜ linesFrom (sizeColumn (now (shape .exit))) (now (numbers .exit)) (now (shape .exit)) 0 1 ≡ plain ∷ [] ⌝ }
     ensures releases { λ _. ⌜ take 1 (releaseColumn (now (numbers .exit))) ≡ releaseOf plain ∷ [] ⌝ }
 {
@@ -79,11 +79,11 @@ pub(crate) fn header_step(
     shape: &mut [usize],
     r: Sofar,
 ) -> Sofar
-    requires { ⌜ Begins (now source) r end next × ((r .instruments + 1 ≤ 32) × ((length (now numbers) ≡ 6176) × (length (now shape) ≡ 2144))) ⌝ }
-    ensures { λ q. ⌜ ((places : List ℕ) (fs : List Float) (is ls ms bs : List ℕ) → Fits places r fs is ls → Tabled r (tablesIn ms bs (now (numbers .entry)) (now (shape .entry))) → Goes (headerRead (r .line) (lineOf (drop (r .at) (now (source .entry)))) (linesOf (drop next (now (source .entry)))) (readIn (now (source .entry)) places r fs is ls (tablesIn ms bs (now (numbers .entry)) (now (shape .entry))))) (1 + length (operatorLines (linesOf (drop next (now (source .entry)))))) (now (source .entry)) places r q fs is ls (tablesIn ms bs (now (numbers .exit)) (now (shape .exit)))) ⌝ }
+    requires { ⌜ Begins (now source) r end next × ((r .instruments + 1 ≤ 32) × ((length (now numbers) ≡ 6176) × (length (now shape) ≡ 2272))) ⌝ }
+    ensures { λ q. ⌜ ((places : List ℕ) (fs : List Float) (is ls bs : List ℕ) → Fits places r fs is ls → Tabled r (tablesIn bs (now (numbers .entry)) (now (shape .entry))) → Goes (headerRead (r .line) (lineOf (drop (r .at) (now (source .entry)))) (linesOf (drop next (now (source .entry)))) (readIn (now (source .entry)) places r fs is ls (tablesIn bs (now (numbers .entry)) (now (shape .entry))))) (1 + length (operatorLines (linesOf (drop next (now (source .entry)))))) (now (source .entry)) places r q fs is ls (tablesIn bs (now (numbers .exit)) (now (shape .exit)))) ⌝ }
 {
     let i = r.instruments + 1;
-    let number = header_line(source, r.at, end, &mut shape[2048..2112], r.instruments);
+    let number = header_line(source, r.at, end, &mut shape[2176..2240], r.instruments);
     if number != 0 {
         return refused(r, number, r.line);
     }

@@ -9,7 +9,7 @@ ghost use Rattle.lines.specs.Names.{namesIn, placeAmong};
 ghost use Rattle.lines.specs.Tokens.{namedOf};
 ghost use Rattle.part.specs.Columns.{bookIn};
 ghost use Rattle.meaning.specs.Sheets.{partRead};
-ghost use Rattle.parser.specs.Columns.{nameColumn, releaseColumn, placeColumn, tablesIn, readIn, Fits, Tabled, Begins, Goes};
+ghost use Rattle.parser.specs.Columns.{macroColumn, nameColumn, releaseColumn, placeColumn, tablesIn, readIn, Fits, Tabled, Begins, Goes};
 ghost use Rattle.parser.specs.PartSteps.{stateOf, storedAs, withPart, NamedAt, Passed, ReadyAt, bodyAt, BodyCame, LinePassed};
 use crate::sofar::Sofar;
 use crate::steps::passed;
@@ -142,7 +142,6 @@ fn body_at(
 // The line of the part k, whose name has its places, with the tables as far as they are filled.
 fn played(
     source: &[u8],
-    macros: &[usize],
     bodies: &[usize],
     numbers: &[f32],
     shape: &[usize],
@@ -155,8 +154,8 @@ fn played(
     r: Sofar,
     rate: u32,
 ) -> Sofar
-    requires { ⌜ (k ≤ r .parts) × ((r .refusal ≡ 0) × ((r .line ≤ 2000000) × ((k < withPart r k .parts) × (Fits (placeColumn (now loops)) (withPart r k) (now floats) (now bytes) (now loops) × Tabled r (tablesIn (now macros) (now bodies) (now numbers) (now shape)))))) ⌝ }
-    ensures { λ t. ⌜ LinePassed (bookIn rate (now (source .entry)) (take (2 * r .macros) (now (macros .entry))) (take (2 * r .macros) (now (bodies .entry))) (take (2 * r .instruments) (nameColumn (now (shape .entry)))) (take (r .instruments + 1) (releaseColumn (now (numbers .entry))))) (now (text .entry)) k next r t (now (floats .entry)) (now (bytes .entry)) (now (loops .entry)) (now (floats .exit)) (now (bytes .exit)) (now (loops .exit)) ⌝ }
+    requires { ⌜ (k ≤ r .parts) × ((r .refusal ≡ 0) × ((r .line ≤ 2000000) × ((k < withPart r k .parts) × (Fits (placeColumn (now loops)) (withPart r k) (now floats) (now bytes) (now loops) × Tabled r (tablesIn (now bodies) (now numbers) (now shape)))))) ⌝ }
+    ensures { λ t. ⌜ LinePassed (bookIn rate (now (source .entry)) (take (2 * r .macros) (macroColumn (now (shape .entry)))) (take (2 * r .macros) (now (bodies .entry))) (take (2 * r .instruments) (nameColumn (now (shape .entry)))) (take (r .instruments + 1) (releaseColumn (now (numbers .entry))))) (now (text .entry)) k next r t (now (floats .entry)) (now (bytes .entry)) (now (loops .entry)) (now (floats .exit)) (now (bytes .exit)) (now (loops .exit)) ⌝ }
 {
     let m = 2 * r.macros;
     let n = 2 * r.instruments;
@@ -164,9 +163,9 @@ fn played(
     let before = state_of(r, k);
     let after = body_at(
         source,
-        &macros[..m],
+        &shape[2048..2048 + m],
         &bodies[..m],
-        &shape[2048..2048 + n],
+        &shape[2176..2176 + n],
         &numbers[6144..6144 + i],
         text,
         floats,
@@ -185,7 +184,6 @@ pub(crate) fn part_step(
     source: &[u8],
     end: usize,
     next: usize,
-    macros: &[usize],
     bodies: &[usize],
     numbers: &[f32],
     shape: &[usize],
@@ -195,8 +193,8 @@ pub(crate) fn part_step(
     r: Sofar,
     rate: u32,
 ) -> Sofar
-    requires { ⌜ Begins (now source) r end next × (Fits (placeColumn (now loops)) r (now floats) (now bytes) (now loops) × Tabled r (tablesIn (now macros) (now bodies) (now numbers) (now shape))) ⌝ }
-    ensures { λ q. ⌜ Goes (partRead rate (r .line) (namedOf (lineOf (drop (r .at) (now (source .entry))))) (readIn (now (source .entry)) (placeColumn (now (loops .entry))) r (now (floats .entry)) (now (bytes .entry)) (now (loops .entry)) (tablesIn (now (macros .entry)) (now (bodies .entry)) (now (numbers .entry)) (now (shape .entry))))) 1 (now (source .entry)) (placeColumn (now (loops .exit))) r q (now (floats .exit)) (now (bytes .exit)) (now (loops .exit)) (tablesIn (now (macros .entry)) (now (bodies .entry)) (now (numbers .entry)) (now (shape .entry))) ⌝ }
+    requires { ⌜ Begins (now source) r end next × (Fits (placeColumn (now loops)) r (now floats) (now bytes) (now loops) × Tabled r (tablesIn (now bodies) (now numbers) (now shape))) ⌝ }
+    ensures { λ q. ⌜ Goes (partRead rate (r .line) (namedOf (lineOf (drop (r .at) (now (source .entry))))) (readIn (now (source .entry)) (placeColumn (now (loops .entry))) r (now (floats .entry)) (now (bytes .entry)) (now (loops .entry)) (tablesIn (now (bodies .entry)) (now (numbers .entry)) (now (shape .entry))))) 1 (now (source .entry)) (placeColumn (now (loops .exit))) r q (now (floats .exit)) (now (bytes .exit)) (now (loops .exit)) (tablesIn (now (bodies .entry)) (now (numbers .entry)) (now (shape .entry))) ⌝ }
 {
     let from = r.at;
     let parts = r.parts;
@@ -217,7 +215,6 @@ pub(crate) fn part_step(
     named(loops, k, parts, from + name_from, from + name_end);
     played(
         source,
-        macros,
         bodies,
         numbers,
         shape,

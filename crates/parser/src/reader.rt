@@ -40,7 +40,6 @@ fn nothing_sofar() -> Sofar
 // The lines of a source, read into tables and columns that have room for all that the capacities allow.
 fn read_into(
     source: &[u8],
-    macros: &mut [usize],
     bodies: &mut [usize],
     numbers: &mut [f32],
     shape: &mut [usize],
@@ -49,13 +48,12 @@ fn read_into(
     loops: &mut [usize],
     rate: u32,
 ) -> Reading
-    requires { ⌜ (length (now source) ≤ 32768) × ((length (now macros) ≡ 128) × ((length (now bodies) ≡ 128) × ((length (now numbers) ≡ 6176) × ((length (now shape) ≡ 2144) × ((length (now floats) ≡ 98304) × ((length (now bytes) ≡ 32768) × (length (now loops) ≡ 288))))))) ⌝ }
+    requires { ⌜ (length (now source) ≤ 32768) × (((length (now bodies) ≡ 128) × ((length (now numbers) ≡ 6176) × ((length (now shape) ≡ 2272) × ((length (now floats) ≡ 98304) × ((length (now bytes) ≡ 32768) × (length (now loops) ≡ 288))))))) ⌝ }
     ensures { λ r. ⌜ r ≡ laidOut (linesRead rate 0 1 (linesOf (now (source .entry))) nothingRead then (λ x. ended rate x)) ⌝ }
 {
     default_instrument(numbers, shape);
     let q = walk(
         source,
-        macros,
         bodies,
         numbers,
         shape,
@@ -73,16 +71,14 @@ fn read_lines(source: &[u8], rate: u32) -> Reading
     requires { ⌜ length (now source) ≤ 32768 ⌝ }
     ensures { λ r. ⌜ r ≡ laidOut (linesRead rate 0 1 (linesOf (now (source .entry))) nothingRead then (λ x. ended rate x)) ⌝ }
 {
-    let mut macros = [0usize; 128];
     let mut bodies = [0usize; 128];
     let mut numbers = [0.0f32; 6176];
-    let mut shape = [0usize; 2144];
+    let mut shape = [0usize; 2272];
     let mut floats = [0.0f32; 98304];
     let mut bytes = [0u8; 32768];
     let mut loops = [0usize; 288];
     read_into(
         source,
-        &mut macros,
         &mut bodies,
         &mut numbers,
         &mut shape,

@@ -10,7 +10,7 @@ ghost use Rattle.environment.specs.Environment.{atTheStart};
 ghost use Rattle.directive.specs.Directives.{directiveOutcome, applied};
 ghost use Rattle.tables.specs.Tables.{numberOf};
 ghost use Rattle.meaning.specs.Sheets.{directiveRead, macroRead};
-ghost use Rattle.parser.specs.Columns.{Tables, tablesOf, readIn, Fits, Tabled, Begins, Goes, refusedAt, passedTo, withEnvs};
+ghost use Rattle.parser.specs.Columns.{Tables, tablesIn, readIn, Fits, Tabled, Begins, Goes, refusedAt, passedTo, withEnvs};
 use crate::sofar::Sofar;
 use directive::directive::Directive;
 use directive::directive::apply;
@@ -95,15 +95,23 @@ pub(crate) fn macro_step(
     source: &[u8],
     end: usize,
     next: usize,
-    macros: &mut [usize],
     bodies: &mut [usize],
+    shape: &mut [usize],
     r: Sofar,
 ) -> Sofar
-    requires { ⌜ Begins (now source) r end next × (r .macros ≤ 64) ⌝ }
-    ensures { λ q. ⌜ ((places : List ℕ) (fs : List Float) (is ls ns zs : List ℕ) (xs : List Float) (ss : List ℕ) (rs : List Float) → Fits places r fs is ls → Tabled r (tablesOf (now (macros .entry)) (now (bodies .entry)) ns zs xs ss rs) → Goes (macroRead (r .line) (lineOf (drop (r .at) (now (source .entry)))) (readIn (now (source .entry)) places r fs is ls (tablesOf (now (macros .entry)) (now (bodies .entry)) ns zs xs ss rs))) 1 (now (source .entry)) places r q fs is ls (tablesOf (now (macros .exit)) (now (bodies .exit)) ns zs xs ss rs)) ⌝ }
+    requires { ⌜ Begins (now source) r end next × ((r .macros ≤ 64) × (length (now shape) ≡ 2272)) ⌝ }
+    ensures { λ q. ⌜ ((places : List ℕ) (fs : List Float) (is ls : List ℕ) (xs : List Float) → Fits places r fs is ls → Tabled r (tablesIn (now (bodies .entry)) xs (now (shape .entry))) → Goes (macroRead (r .line) (lineOf (drop (r .at) (now (source .entry)))) (readIn (now (source .entry)) places r fs is ls (tablesIn (now (bodies .entry)) xs (now (shape .entry))))) 1 (now (source .entry)) places r q fs is ls (tablesIn (now (bodies .exit)) xs (now (shape .exit)))) ⌝ }
 {
     let count = r.macros;
-    let number = macro_line(source, r.at, end, macros, bodies, count, r.line);
+    let number = macro_line(
+        source,
+        r.at,
+        end,
+        &mut shape[2048..2176],
+        bodies,
+        count,
+        r.line,
+    );
     if number != 0 {
         return refused(r, number, r.line);
     }

@@ -22,7 +22,6 @@ fn line_step(
     source: &[u8],
     end: usize,
     next: usize,
-    macros: &mut [usize],
     bodies: &mut [usize],
     numbers: &mut [f32],
     shape: &mut [usize],
@@ -32,8 +31,8 @@ fn line_step(
     r: Sofar,
     rate: u32,
 ) -> Sofar
-    requires { ⌜ Begins (now source) r end next × (Fits (placeColumn (now loops)) r (now floats) (now bytes) (now loops) × Tabled r (tablesIn (now macros) (now bodies) (now numbers) (now shape))) ⌝ }
-    ensures { λ q. ⌜ Goes (lineRead rate (kindOf (lineOf (drop (r .at) (now (source .entry))))) (r .line) (lineOf (drop (r .at) (now (source .entry)))) (linesOf (drop next (now (source .entry)))) (readIn (now (source .entry)) (placeColumn (now (loops .entry))) r (now (floats .entry)) (now (bytes .entry)) (now (loops .entry)) (tablesIn (now (macros .entry)) (now (bodies .entry)) (now (numbers .entry)) (now (shape .entry))))) (1 + takenBy (kindOf (lineOf (drop (r .at) (now (source .entry))))) (linesOf (drop next (now (source .entry))))) (now (source .entry)) (placeColumn (now (loops .exit))) r q (now (floats .exit)) (now (bytes .exit)) (now (loops .exit)) (tablesIn (now (macros .exit)) (now (bodies .exit)) (now (numbers .exit)) (now (shape .exit))) ⌝ }
+    requires { ⌜ Begins (now source) r end next × (Fits (placeColumn (now loops)) r (now floats) (now bytes) (now loops) × Tabled r (tablesIn (now bodies) (now numbers) (now shape))) ⌝ }
+    ensures { λ q. ⌜ Goes (lineRead rate (kindOf (lineOf (drop (r .at) (now (source .entry))))) (r .line) (lineOf (drop (r .at) (now (source .entry)))) (linesOf (drop next (now (source .entry)))) (readIn (now (source .entry)) (placeColumn (now (loops .entry))) r (now (floats .entry)) (now (bytes .entry)) (now (loops .entry)) (tablesIn (now (bodies .entry)) (now (numbers .entry)) (now (shape .entry))))) (1 + takenBy (kindOf (lineOf (drop (r .at) (now (source .entry))))) (linesOf (drop next (now (source .entry))))) (now (source .entry)) (placeColumn (now (loops .exit))) r q (now (floats .exit)) (now (bytes .exit)) (now (loops .exit)) (tablesIn (now (bodies .exit)) (now (numbers .exit)) (now (shape .exit))) ⌝ }
 {
     let at = r.at;
     if at >= end {
@@ -50,13 +49,12 @@ fn line_step(
         return directive_step(source, end, next, r);
     }
     if b == 33 {
-        return macro_step(source, end, next, macros, bodies, r);
+        return macro_step(source, end, next, bodies, shape, r);
     }
     part_step(
         source,
         end,
         next,
-        macros,
         bodies,
         numbers,
         shape,
@@ -71,7 +69,6 @@ fn line_step(
 // All lines from the first place on, up to the first refusal.
 pub(crate) fn walk(
     source: &[u8],
-    macros: &mut [usize],
     bodies: &mut [usize],
     numbers: &mut [f32],
     shape: &mut [usize],
@@ -81,9 +78,9 @@ pub(crate) fn walk(
     first: Sofar,
     rate: u32,
 ) -> Sofar
-    requires { ⌜ (length (now source) ≤ 32768) × ((first .refusal ≡ 0) × ((first .at ≡ 0) × ((first .line ≡ 1) × (Fits (placeColumn (now loops)) first (now floats) (now bytes) (now loops) × Tabled first (tablesIn (now macros) (now bodies) (now numbers) (now shape)))))) ⌝ }
-    ensures means { λ q. ⌜ readOutcome (now (source .entry)) (placeColumn (now (loops .exit))) q (now (floats .exit)) (now (bytes .exit)) (now (loops .exit)) (tablesIn (now (macros .exit)) (now (bodies .exit)) (now (numbers .exit)) (now (shape .exit))) ≡ linesRead rate 0 1 (linesOf (now (source .entry))) (readIn (now (source .entry)) (placeColumn (now (loops .entry))) first (now (floats .entry)) (now (bytes .entry)) (now (loops .entry)) (tablesIn (now (macros .entry)) (now (bodies .entry)) (now (numbers .entry)) (now (shape .entry)))) ⌝ }
-    ensures fits { λ q. ⌜ (q .refusal ≡ 0 → Fits (placeColumn (now (loops .exit))) q (now (floats .exit)) (now (bytes .exit)) (now (loops .exit)) × Tabled q (tablesIn (now (macros .exit)) (now (bodies .exit)) (now (numbers .exit)) (now (shape .exit)))) ⌝ }
+    requires { ⌜ (length (now source) ≤ 32768) × ((first .refusal ≡ 0) × ((first .at ≡ 0) × ((first .line ≡ 1) × (Fits (placeColumn (now loops)) first (now floats) (now bytes) (now loops) × Tabled first (tablesIn (now bodies) (now numbers) (now shape)))))) ⌝ }
+    ensures means { λ q. ⌜ readOutcome (now (source .entry)) (placeColumn (now (loops .exit))) q (now (floats .exit)) (now (bytes .exit)) (now (loops .exit)) (tablesIn (now (bodies .exit)) (now (numbers .exit)) (now (shape .exit))) ≡ linesRead rate 0 1 (linesOf (now (source .entry))) (readIn (now (source .entry)) (placeColumn (now (loops .entry))) first (now (floats .entry)) (now (bytes .entry)) (now (loops .entry)) (tablesIn (now (bodies .entry)) (now (numbers .entry)) (now (shape .entry)))) ⌝ }
+    ensures fits { λ q. ⌜ (q .refusal ≡ 0 → Fits (placeColumn (now (loops .exit))) q (now (floats .exit)) (now (bytes .exit)) (now (loops .exit)) × Tabled q (tablesIn (now (bodies .exit)) (now (numbers .exit)) (now (shape .exit)))) ⌝ }
 {
     let mut r = first;
     while r.at < source.len() {
@@ -94,7 +91,6 @@ pub(crate) fn walk(
             source,
             end,
             next,
-            macros,
             bodies,
             numbers,
             shape,

@@ -17,12 +17,12 @@ sub-header-line : tie.Need-sub-header-line
 sub-header-line c = omega arith
 
 part-header-line-start : tie.Need-part-header-line-start
-part-header-line-start c = let z : 2048 ≤ 2112 = omega arith in z
+part-header-line-start c = let z : 2176 ≤ 2240 = omega arith in z
 
 part-header-line-end : tie.Need-part-header-line-end
 part-header-line-end c =
     let s = c .before .before .before .before in
-    let z : 2112 ≤ length (s .args .shape .now) = omega (arith, s .pre .1 .1 .1) in z
+    let z : 2240 ≤ length (s .args .shape .now) = omega (arith, s .pre .1 .1 .1) in z
 
 header-line-requires : tie.Need-header-line-requires
 header-line-requires c κs = tt
@@ -37,10 +37,10 @@ same-length c =
     names-back (s .args .shape .now) (s .pre .1 .1 .1) (h .header-line .last .1 .1 .1 .0) (h .header-line .kept .1 .1 .1 .0)
 
 returns : tie.Need-returns
-returns c places fs is ls ms bs w g =
+returns c places fs is ls bs w g =
     let s = c .before .before .before .before .before .before .before .before .before .before in
     goes-as _ _ (s .args .source .now) places (s .args .r) (c .refused .result) (refusedAt (s .args .r) (c .before .before .before .before .header-line .result) (s .args .r .line)) fs is ls _ (c .refused .ensures)
-    (column-refuses (s .args .source .now) places (s .args .r) fs is ls ms bs (s .args .numbers .now) (s .args .shape .now) (s .args .end) (s .args .next) (c .before .before .before .before .header-line .result) (s .pre .0) w g (c .before .before .before .before .header-line .ensures .0 (s .args .r .line)) _ (c .before .if1 .taken))
+    (column-refuses (s .args .source .now) places (s .args .r) fs is ls bs (s .args .numbers .now) (s .args .shape .now) (s .args .end) (s .args .next) (c .before .before .before .before .header-line .result) (s .pre .0) w g (c .before .before .before .before .header-line .ensures .0 (s .args .r .line)) _ (c .before .if1 .taken))
 
 kept-requires : tie.Need-kept-requires
 kept-requires c κs =
@@ -71,12 +71,12 @@ same-length-3 c =
     k .kept .kept .1 .1 .1 .0 ∙ names-back (s .args .shape .now) (s .pre .1 .1 .1) (h .header-line .last .1 .1 .1 .0) (h .header-line .kept .1 .1 .1 .0)
 
 returns-2 : tie.Need-returns-2
-returns-2 c places fs is ls ms bs w g =
+returns-2 c places fs is ls bs w g =
     let k = c .before .before .before .before .before .before .before .before .before in
     let h = k .before .before .before .before .before .before in
     let s = h .before .before .before .before .before .before in
     goes-as _ _ (s .args .source .now) places (s .args .r) (c .refused2 .result) (refusedAt (s .args .r) (k .kept .result .refusal) (s .args .r .line + 1 + k .kept .result .count)) fs is ls _ (c .refused2 .ensures)
-    (column-block-refuses (s .args .source .now) places (s .args .r) fs is ls ms bs (s .args .numbers .now) (s .args .shape .now) (s .args .end) (s .args .next) (h .header-line .result) (s .pre .0) w g (h .header-line .ensures .0 (s .args .r .line)) (k .before .before .before .if1 .left)
+    (column-block-refuses (s .args .source .now) places (s .args .r) fs is ls bs (s .args .numbers .now) (s .args .shape .now) (s .args .end) (s .args .next) (h .header-line .result) (s .pre .0) w g (h .header-line .ensures .0 (s .args .r .line)) (k .before .before .before .if1 .left)
     (h .header-line .last .1 .1 .1 .0) (h .header-line .kept .1 .1 .1 .0) (k .kept .result) (k .kept .last .1 .1 .0) (k .kept .last .1 .1 .1 .0) (k .kept .ensures) _ (c .before .if2 .taken))
 
 same-length-4 : tie.Need-same-length-4
@@ -90,11 +90,11 @@ same-length-5 c =
     k .kept .kept .1 .1 .1 .0 ∙ names-back (s .args .shape .now) (s .pre .1 .1 .1) (h .header-line .last .1 .1 .1 .0) (h .header-line .kept .1 .1 .1 .0)
 
 returns-3 : tie.Need-returns-3
-returns-3 c places fs is ls ms bs w g =
+returns-3 c places fs is ls bs w g =
     let k = c .before .before .before .before .before .before .before .before in
     let h = k .before .before .before .before .before .before in
     let s = h .before .before .before .before .before .before in
-    column-goes (s .args .source .now) places (s .args .r) fs is ls ms bs (s .args .numbers .now) (s .args .shape .now) (s .args .end) (s .args .next) (h .header-line .result) (s .pre .0) w g (h .header-line .ensures .0 (s .args .r .line)) (k .before .before .before .if1 .left)
+    column-goes (s .args .source .now) places (s .args .r) fs is ls bs (s .args .numbers .now) (s .args .shape .now) (s .args .end) (s .args .next) (h .header-line .result) (s .pre .0) w g (h .header-line .ensures .0 (s .args .r .line)) (k .before .before .before .if1 .left)
     (h .header-line .last .1 .1 .1 .0) (h .header-line .kept .1 .1 .1 .0) (k .kept .result) (k .kept .last .1 .1 .0) (k .kept .last .1 .1 .1 .0) (k .kept .ensures) (c .if2 .left) (k .kept .kept .1 .1 .0)
     (k .kept .kept .1 .1 .1 .0 ∙ names-back (s .args .shape .now) (s .pre .1 .1 .1) (h .header-line .last .1 .1 .1 .0) (h .header-line .kept .1 .1 .1 .0)) (h .header-line .ensures .1 (s .args .r .line))
 

@@ -22,14 +22,11 @@ slice-aggregate-read-into-5 c = refl
 slice-aggregate-read-into-6 : tie.Need-slice-aggregate-read-into-6
 slice-aggregate-read-into-6 c = refl
 
-slice-aggregate-read-into-7 : tie.Need-slice-aggregate-read-into-7
-slice-aggregate-read-into-7 c = refl
-
 read-into-requires : tie.Need-read-into-requires
-read-into-requires c κs = (c .before .before .before .before .before .before .before .before .pre, (refl, (refl, (refl, (refl, (refl, (refl, refl)))))))
+read-into-requires c κs = (c .before .before .before .before .before .before .before .pre, (refl, (refl, (refl, (refl, (refl, refl))))))
 
 returns : tie.Need-returns
-returns c = c .before .before .before .before .before .before .before .read-into .ensures
+returns c = c .before .before .before .before .before .before .read-into .ensures
 
 pub read-lines-spec : {M : Type 1} → statement M
 read-lines-spec =
@@ -41,6 +38,5 @@ read-lines-spec =
     slice-aggregate-read-into-4
     slice-aggregate-read-into-5
     slice-aggregate-read-into-6
-    slice-aggregate-read-into-7
     read-into-requires
     returns)
