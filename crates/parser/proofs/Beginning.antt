@@ -22,9 +22,10 @@ use Rattle.layout.specs.Regions.{region}
 use Rattle.layout.specs.Layout.{linesAt, linesFrom, notesFrom}
 use Rattle.layout.proofs.Regions.{region-wide}
 use Rattle.parser.specs.declared.sofar.Sofar.{Sofar}
-use Rattle.meaning.specs.Sheets.{plain, nothingRead}
+use Rattle.meaning.specs.Sheets.{Read, plain, nothingRead, linesRead}
 use Rattle.parser.specs.Columns.{sizeColumn, releaseColumn, placeColumn, tablesIn, partsFrom, readIn, Fits, Tabled, Blocked, Kept, nothingSofar}
 use Rattle.parser.proofs.Headers.{block-going, block-refused}
+use Rattle.parser.proofs.Walking.{Walking, walking-start}
 use Rattle.parser.proofs.ReadLines.{held-whole}
 use Rattle.tables.proofs.Entries.{same-given}
 
@@ -146,28 +147,19 @@ module _ (s : List ℕ) (fs : List Float) (is ls : List ℕ) where
     unfolding nothingSofar readIn nothingRead partsFrom macrosIn namesIn
     nothing-read = ap (λ (l : List (List Line)). record { start = atTheStart; parts = []; macros = []; names = []; instruments = l; steps = 0 }) d
 
-    -- what the walk asks of where it begins
-    pub begins : (r : Sofar) → r ≡ nothingSofar → length s ≤ 32768 → length fs ≡ 98304 → length is ≡ 32768 → length ls ≡ 288
-        → length bs ≡ 128 → length xs ≡ 6176 → length ss ≡ 2272 → take 1 (releaseColumn xs) ≡ releaseOf plain ∷ []
-        → (length s ≤ 32768)
-        × ((r .refusal ≡ 0) × ((r .at ≡ 0) × ((r .line ≡ 1) × (Fits (placeColumn ls) r fs is ls × Tabled r (tablesIn bs xs ss)))))
-    unfolding nothingSofar
-    begins r e small lf li ll lb lx lss t = (
-      small,
-      (
-        ap (λ (x : Sofar). x .refusal) e,
-        (
-          ap (λ (x : Sofar). x .at) e,
-          (
-            ap (λ (x : Sofar). x .line) e,
-            (
-              subst (λ (x : Sofar). Fits (placeColumn ls) x fs is ls) (sym e) (nothing-fits lf li ll),
-              subst (λ (x : Sofar). Tabled x (tablesIn bs xs ss)) (sym e) (nothing-tabled lb lx lss t),
-            ),
-          ),
-        ),
-      ),
-    )
-
-    pub begun-read : (r : Sofar) → r ≡ nothingSofar → readIn s (placeColumn ls) r fs is ls (tablesIn bs xs ss) ≡ nothingRead
+    begun-read : (r : Sofar) → r ≡ nothingSofar → readIn s (placeColumn ls) r fs is ls (tablesIn bs xs ss) ≡ nothingRead
     begun-read r e = ap (λ (x : Sofar). readIn s (placeColumn ls) x fs is ls (tablesIn bs xs ss)) e ∙ nothing-read
+
+    -- the walk begins
+    pub walking-begun : (rate : ℕ) (r : Sofar) → r ≡ nothingSofar → length fs ≡ 98304 → length is ≡ 32768 → length ls ≡ 288
+        → length bs ≡ 128 → length xs ≡ 6176 → length ss ≡ 2272 → take 1 (releaseColumn xs) ≡ releaseOf plain ∷ []
+        → Walking rate s (linesRead rate 0 1 (linesOf s) nothingRead) (placeColumn ls) r fs is ls (tablesIn bs xs ss)
+    unfolding nothingSofar
+    walking-begun rate r e lf li ll lb lx lss t =
+        subst (λ (x : Read). Walking rate s (linesRead rate 0 1 (linesOf s) x) (placeColumn ls) r fs is ls (tablesIn bs xs ss)) (begun-read r e)
+        (walking-start rate s (placeColumn ls) r fs is ls (tablesIn bs xs ss)
+        (ap (λ (x : Sofar). x .refusal) e)
+        (ap (λ (x : Sofar). x .at) e)
+        (ap (λ (x : Sofar). x .line) e)
+        (subst (λ (x : Sofar). Fits (placeColumn ls) x fs is ls) (sym e) (nothing-fits lf li ll))
+        (subst (λ (x : Sofar). Tabled x (tablesIn bs xs ss)) (sym e) (nothing-tabled lb lx lss t)))

@@ -5,68 +5,14 @@ ghost use Prim.Native.Nat.{_≤_, max};
 ghost use lib.ListN.{length};
 ghost use Rattle.lines.specs.Lines.{linesOf};
 ghost use Rattle.sheet.specs.Refusals.{_>>=_ as _then_};
-ghost use Rattle.parser.specs.Columns.{nothingSofar};
 ghost use Rattle.meaning.specs.Layout.{laidOut, readingOf};
 ghost use Rattle.meaning.specs.Sheets.{nothingRead, linesRead, ended, allBelow128};
 use crate::ending::finished;
 use crate::ending::refused_reading;
-use crate::header::default_instrument;
-use crate::sofar::Sofar;
 use crate::walk::walk;
-use environment::environment::Environment;
 use meaning::reading::Reading;
 
-// Nothing is read yet.
-fn nothing_sofar() -> Sofar
-    ensures { λ r. ⌜ r ≡ nothingSofar ⌝ }
-{
-    let start = Environment::new();
-    Sofar {
-        start,
-        parts: 0,
-        envs: [start; 16],
-        counts: [0; 16],
-        depths: [0; 16],
-        all: 0,
-        macros: 0,
-        instruments: 0,
-        steps: 0,
-        refusal: 0,
-        line: 1,
-        at: 0,
-    }
-}
-
 // The lines of a source, read into tables and columns that have room for all that the capacities allow.
-fn read_into(
-    source: &[u8],
-    bodies: &mut [usize],
-    numbers: &mut [f32],
-    shape: &mut [usize],
-    floats: &mut [f32],
-    bytes: &mut [u8],
-    loops: &mut [usize],
-    rate: u32,
-) -> Reading
-    requires { ⌜ (length (now source) ≤ 32768) × (((length (now bodies) ≡ 128) × ((length (now numbers) ≡ 6176) × ((length (now shape) ≡ 2272) × ((length (now floats) ≡ 98304) × ((length (now bytes) ≡ 32768) × (length (now loops) ≡ 288))))))) ⌝ }
-    ensures { λ r. ⌜ r ≡ laidOut (linesRead rate 0 1 (linesOf (now (source .entry))) nothingRead then (λ x. ended rate x)) ⌝ }
-{
-    default_instrument(numbers, shape);
-    let q = walk(
-        source,
-        bodies,
-        numbers,
-        shape,
-        floats,
-        bytes,
-        loops,
-        nothing_sofar(),
-        rate,
-    );
-    finished(floats, bytes, numbers, shape, q, rate)
-}
-
-// The same, with tables and columns of its own.
 fn read_lines(source: &[u8], rate: u32) -> Reading
     requires { ⌜ length (now source) ≤ 32768 ⌝ }
     ensures { λ r. ⌜ r ≡ laidOut (linesRead rate 0 1 (linesOf (now (source .entry))) nothingRead then (λ x. ended rate x)) ⌝ }
@@ -77,7 +23,7 @@ fn read_lines(source: &[u8], rate: u32) -> Reading
     let mut floats = [0.0f32; 98304];
     let mut bytes = [0u8; 32768];
     let mut loops = [0usize; 288];
-    read_into(
+    let q = walk(
         source,
         &mut bodies,
         &mut numbers,
@@ -86,7 +32,8 @@ fn read_lines(source: &[u8], rate: u32) -> Reading
         &mut bytes,
         &mut loops,
         rate,
-    )
+    );
+    finished(&floats, &bytes, &numbers, &shape, q, rate)
 }
 
 // The larger of two bytes.

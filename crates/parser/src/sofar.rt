@@ -1,4 +1,5 @@
-// How far the reading of a sheet is, with its tables and columns beside it.
+// How far the reading of a sheet is, with its tables and columns beside it. Few columns are lent, since each costs in every function that passes it on: in `shape` the macros' names
+// stand from 2048 on, the instruments' names from 2176 and their sizes from 2240, in `numbers` the releases from 6144, and in `loops` the places of the parts' names from 256.
 
 use environment::environment::Environment;
 

@@ -6,15 +6,16 @@ ghost use Prim.Native.Nat.{ℕ, _+_, _*_, _≤_, _<_};
 ghost use lib.ListN.{length, drop};
 ghost use lib.Ieee.{Float};
 ghost use Rattle.lines.specs.Lines.{linesOf, lineOf};
-ghost use Rattle.lines.specs.Tokens.{namedOf};
-ghost use Rattle.meaning.specs.Sheets.{partRead, kindOf, takenBy, lineRead, linesRead};
-ghost use Rattle.parser.specs.Columns.{placeColumn, tablesIn, readIn, readOutcome, Fits, Tabled, Begins, Goes};
+ghost use Rattle.meaning.specs.Sheets.{nothingRead, kindOf, takenBy, lineRead, linesRead};
+ghost use Rattle.parser.specs.Columns.{placeColumn, tablesIn, readIn, readOutcome, Fits, Tabled, Begins, Goes, nothingSofar};
+use crate::header::default_instrument;
 use crate::header::header_step;
 use crate::parts::part_step;
 use crate::sofar::Sofar;
 use crate::steps::directive_step;
 use crate::steps::macro_step;
 use crate::steps::passed;
+use environment::environment::Environment;
 use lines::lines::line_at;
 
 // One line, by the byte that it begins with.
@@ -66,7 +67,28 @@ fn line_step(
     )
 }
 
-// All lines from the first place on, up to the first refusal.
+// Nothing is read yet.
+fn nothing_sofar() -> Sofar
+    ensures { λ r. ⌜ r ≡ nothingSofar ⌝ }
+{
+    let start = Environment::new();
+    Sofar {
+        start,
+        parts: 0,
+        envs: [start; 16],
+        counts: [0; 16],
+        depths: [0; 16],
+        all: 0,
+        macros: 0,
+        instruments: 0,
+        steps: 0,
+        refusal: 0,
+        line: 1,
+        at: 0,
+    }
+}
+
+// All lines from the first place on, up to the first refusal, with the default instrument before them.
 pub(crate) fn walk(
     source: &[u8],
     bodies: &mut [usize],
@@ -75,14 +97,14 @@ pub(crate) fn walk(
     floats: &mut [f32],
     bytes: &mut [u8],
     loops: &mut [usize],
-    first: Sofar,
     rate: u32,
 ) -> Sofar
-    requires { ⌜ (length (now source) ≤ 32768) × ((first .refusal ≡ 0) × ((first .at ≡ 0) × ((first .line ≡ 1) × (Fits (placeColumn (now loops)) first (now floats) (now bytes) (now loops) × Tabled first (tablesIn (now bodies) (now numbers) (now shape)))))) ⌝ }
-    ensures means { λ q. ⌜ readOutcome (now (source .entry)) (placeColumn (now (loops .exit))) q (now (floats .exit)) (now (bytes .exit)) (now (loops .exit)) (tablesIn (now (bodies .exit)) (now (numbers .exit)) (now (shape .exit))) ≡ linesRead rate 0 1 (linesOf (now (source .entry))) (readIn (now (source .entry)) (placeColumn (now (loops .entry))) first (now (floats .entry)) (now (bytes .entry)) (now (loops .entry)) (tablesIn (now (bodies .entry)) (now (numbers .entry)) (now (shape .entry)))) ⌝ }
+    requires { ⌜ (length (now source) ≤ 32768) × ((length (now bodies) ≡ 128) × ((length (now numbers) ≡ 6176) × ((length (now shape) ≡ 2272) × ((length (now floats) ≡ 98304) × ((length (now bytes) ≡ 32768) × (length (now loops) ≡ 288)))))) ⌝ }
+    ensures means { λ q. ⌜ readOutcome (now (source .entry)) (placeColumn (now (loops .exit))) q (now (floats .exit)) (now (bytes .exit)) (now (loops .exit)) (tablesIn (now (bodies .exit)) (now (numbers .exit)) (now (shape .exit))) ≡ linesRead rate 0 1 (linesOf (now (source .entry))) nothingRead ⌝ }
     ensures fits { λ q. ⌜ (q .refusal ≡ 0 → Fits (placeColumn (now (loops .exit))) q (now (floats .exit)) (now (bytes .exit)) (now (loops .exit)) × Tabled q (tablesIn (now (bodies .exit)) (now (numbers .exit)) (now (shape .exit)))) ⌝ }
 {
-    let mut r = first;
+    default_instrument(numbers, shape);
+    let mut r = nothing_sofar();
     while r.at < source.len() {
         let line = line_at(source, r.at);
         let end = line.end;

@@ -1,8 +1,8 @@
 -- `nothing_sofar` fills its arrays with the starting environment and with 0. Assumes nothing.
 use Rattle.parser.specs.Columns.{nothingSofar}
 use borrow.Author.Needs.{needs}
-use Rattle.parser.proofs.reader.nothing_sofar.Statement.{statement}
-use Rattle.parser.proofs.reader.nothing_sofar.Tie as tie
+use Rattle.parser.proofs.walk.nothing_sofar.Statement.{statement}
+use Rattle.parser.proofs.walk.nothing_sofar.Tie as tie
 
 new-requires : tie.Need-new-requires
 new-requires c κs = search needs
