@@ -214,12 +214,6 @@ fn feedback_at(text: &[u8], at: usize) -> Feedback
 fn finished(text: &[u8], at: usize, tabs: usize, above: usize, numbers: Operator) -> OperatorLine
     ensures { λ r. ⌜ ((line : ℕ) → outcomeOf line r ≡ finishedRead line tabs above numbers (tokensOf (drop at (now (text .entry))))) ⌝ }
 {
-    let amplitude = numbers.amplitude;
-    let freqratio = numbers.freqratio;
-    let attack = numbers.attack;
-    let decay = numbers.decay;
-    let sustain = numbers.sustain;
-    let release = numbers.release;
     let f = feedback_at(text, at);
     match f {
         Feedback::Refused(n) => {
@@ -229,18 +223,9 @@ fn finished(text: &[u8], at: usize, tabs: usize, above: usize, numbers: Operator
             if above >= 32 {
                 return OperatorLine::Refused(21);
             }
-            return OperatorLine::Read(
-                tabs,
-                Operator {
-                    amplitude,
-                    freqratio,
-                    attack,
-                    decay,
-                    sustain,
-                    release,
-                    feedback,
-                },
-            );
+            let mut op = numbers;
+            op.feedback = feedback;
+            return OperatorLine::Read(tabs, op);
         }
     }
 }
