@@ -76,7 +76,10 @@ def rust_absent():
     """Why the Rust program cannot be built, or nothing where it can."""
     if not HERE:
         return "rustc builds for this processor alone"
-    return "" if shutil.which("rustc") else "no rustc: it is not on the path"
+    if shutil.which("rustc") is None:
+        return "no rustc: it is not on the path"
+    runs = subprocess.run(["rustc", "--version"], capture_output=True, check=False).returncode == 0
+    return "" if runs else "no rustc: it does not run"
 
 
 def build_c(source, name):
