@@ -2,7 +2,7 @@
 
 ghost use mathlib.Core.Path.{_≡_};
 ghost use Prim.Native.Nat.{min};
-ghost use Rattle.wave.specs.Form.{le};
+ghost use Rattle.form.specs.Form.{le};
 
 // The smaller of two.
 pub fn least(a: usize, b: usize) -> usize

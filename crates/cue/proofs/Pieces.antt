@@ -8,10 +8,10 @@ use Prim.Native.Nat.{ℕ, suc, _+_, _-_, _*_, _/_, _^_, _≤_, _<_, min}
 use native.Mathlib.Omega.{arith}
 use lib.ListN.{length, take, drop, length-append, length-drop}
 use lib.Seq.{take-at, take-add, take-length, length-take-le}
-use Rattle.wave.specs.Form.{header, oldSize}
-use Rattle.wave.specs.Sample.{bytesOf}
+use Rattle.form.specs.Form.{header, oldSize}
+use Rattle.form.specs.Sample.{bytesOf}
 use Rattle.wave.specs.File.{put, roomAt}
-use Rattle.wave.proofs.Published.{header-length}
+use Rattle.form.proofs.Published.{header-length}
 use Rattle.sheet.specs.declared.sheet.Sheet.{Sheet}
 use Rattle.sheet.specs.Parts.{lengthOf}
 use Rattle.handed.specs.Check.{isSheet}

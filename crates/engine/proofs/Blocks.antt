@@ -7,7 +7,7 @@ use Prim.Native.Nat.{ℕ, _+_, _-_, _*_, _^_, _≤_, _<_, min}
 use native.Mathlib.Omega.{arith}
 use lib.ListN.{length, take, drop, length-append, take-append-drop, drop-of-length-le}
 use lib.Ieee.{Float}
-use Rattle.wave.specs.Sample.{bytesOf}
+use Rattle.form.specs.Sample.{bytesOf}
 use Rattle.wave.specs.File.{put, samplesIn}
 use Rattle.wave.proofs.Writes.{samples-put}
 use Rattle.sheet.specs.declared.sheet.Sheet.{Sheet}

@@ -12,10 +12,10 @@ use lib.ListN.{length, take, drop, length-append, drop-of-length-le}
 use lib.Seq.{drop-append-add, drop-append-le}
 use lib.Ieee.{Float}
 use borrow.Author.Tests.{le-leb, leb-true, leb-false, ltb-true, ltb-false}
-use Rattle.wave.specs.Form.{header, oldSize}
-use Rattle.wave.specs.Sample.{bytesOf}
+use Rattle.form.specs.Form.{header, oldSize}
+use Rattle.form.specs.Sample.{bytesOf}
 use Rattle.wave.specs.File.{put, roomAt, fitsFile, fileIn}
-use Rattle.wave.proofs.Published.{header-length, bytes-length}
+use Rattle.form.proofs.Published.{header-length, bytes-length}
 use Rattle.wave.proofs.Writes.{put-none, put-length, put-put, bytes-append}
 use Rattle.sheet.specs.declared.sheet.Sheet.{Sheet}
 use Rattle.sheet.specs.Parts.{lengthOf}

@@ -8,10 +8,10 @@ use lib.Dec.{leb, eqb}
 use lib.ListN.{length, take, drop, length-take}
 use lib.Seq.{take-at, drop-at, drop-append-add}
 use borrow.Author.Tests.{le-leb, lt-leb, eq-eqb, ne-eqb, leb-true, leb-false}
-use Rattle.wave.specs.Form.{header, oldSize}
-use Rattle.wave.specs.Sample.{bytesOf}
+use Rattle.form.specs.Form.{header, oldSize}
+use Rattle.form.specs.Sample.{bytesOf}
 use Rattle.wave.specs.File.{put, roomAt}
-use Rattle.wave.proofs.Published.{header-length}
+use Rattle.form.proofs.Published.{header-length}
 use Rattle.wave.proofs.Writes.{put-none, put-length, bytes-append}
 use Rattle.sheet.specs.declared.sheet.Sheet.{Sheet}
 use Rattle.sheet.specs.Parts.{lengthOf}

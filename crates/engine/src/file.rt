@@ -5,7 +5,7 @@ ghost use mathlib.Core.Path.{_≡_};
 ghost use mathlib.Core.Bool.{true};
 ghost use Prim.Native.Nat.{_+_, _*_, _≤_};
 ghost use lib.ListN.{length};
-ghost use Rattle.wave.specs.Sample.{bytesOf};
+ghost use Rattle.form.specs.Sample.{bytesOf};
 ghost use Rattle.wave.specs.File.{put};
 ghost use Rattle.sheet.specs.Answers.{answered};
 ghost use Rattle.sheet.specs.Parts.{lengthOf};

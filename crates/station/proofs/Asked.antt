@@ -6,8 +6,8 @@ use Prim.Native.Nat.{ℕ, _+_, _-_, _*_, _≤_, _<_}
 use native.Mathlib.Omega.{arith}
 use lib.ListN.{length}
 use borrow.Author.Tests.{le-leb, lt-leb}
-use Rattle.wave.specs.Form.{header, oldSize}
-use Rattle.wave.specs.Sample.{bytesOf}
+use Rattle.form.specs.Form.{header, oldSize}
+use Rattle.form.specs.Sample.{bytesOf}
 use Rattle.wave.specs.File.{put, fitsFile, fileIn}
 use Rattle.sheet.specs.declared.sheet.Sheet.{Sheet}
 use Rattle.sheet.specs.Parts.{lengthOf}

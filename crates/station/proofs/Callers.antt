@@ -5,9 +5,9 @@ use mathlib.Core.List.{List, _++_}
 use Prim.Native.Nat.{ℕ, _+_, _-_, _*_, _/_, _≤_, min}
 use native.Mathlib.Omega.{arith}
 use lib.ListN.{length, length-append}
-use Rattle.wave.specs.Form.{oldSize}
+use Rattle.form.specs.Form.{oldSize}
 use Rattle.wave.specs.File.{put, roomAt}
-use Rattle.wave.proofs.Published.{header-length}
+use Rattle.form.proofs.Published.{header-length}
 use Rattle.sheet.specs.declared.sheet.Sheet.{Sheet}
 use Rattle.sheet.specs.Parts.{lengthOf}
 use Rattle.sheet.specs.Refusals.{Outcome, going, refused, _>>=_, _>>_}

@@ -1,7 +1,4 @@
-pub mod Back
 pub mod Examples
-pub mod Halves
 pub mod Published
-pub mod Scaled
 pub mod Told
 pub mod Writes

@@ -10,10 +10,10 @@ use borrow.Author.Tests.{le-leb}
 use lib.ListN.{length, take, drop, set, getD, length-append, length-drop, take-append-drop, drop-of-length-le}
 use lib.Seq.{sets, sets-eq, take-suc, take-all, take-length, length-take-le, take-at, drop-append-add, drop-drop}
 use lib.Ieee.{Float}
-use Rattle.wave.specs.Form.{header}
-use Rattle.wave.specs.Sample.{sample16, word, sampleBytes, bytesOf}
+use Rattle.form.specs.Form.{header}
+use Rattle.form.specs.Sample.{sample16, word, sampleBytes, bytesOf}
 use Rattle.wave.specs.File.{put, countIn, samplesIn, headerIn}
-use Rattle.wave.proofs.Published.{header-length, bytes-length}
+use Rattle.form.proofs.Published.{header-length, bytes-length}
 
 -- ---- puts
 

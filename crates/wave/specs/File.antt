@@ -7,8 +7,8 @@ use Prim.Native.Nat.{ℕ, _+_, _-_, _*_, _/_, min}
 use lib.Dec.{leb}
 use lib.ListN.{length, take, drop}
 use lib.Ieee.{Float}
-use Rattle.wave.specs.Form.{header, oldSize}
-use Rattle.wave.specs.Sample.{bytesOf}
+use Rattle.form.specs.Form.{header, oldSize}
+use Rattle.form.specs.Sample.{bytesOf}
 use Rattle.wave.specs.declared.file.Written.{Written}
 use Rattle.wave.specs.declared.file.Written.the-variants.{Wrote, TooShort}
 

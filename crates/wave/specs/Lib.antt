@@ -1,3 +1,1 @@
-pub mod Form
-pub mod Sample
 pub mod File

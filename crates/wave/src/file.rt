@@ -1,12 +1,12 @@
 // The file of given samples, its header, and sample bytes at any place of a lent buffer. Each writer
 // says what it answers and what the whole buffer holds afterwards.
 
-use crate::header::header;
-use crate::sample::sample;
+use form::header::header;
+use form::sample::sample;
 ghost use mathlib.Core.Path.{_≡_};
 ghost use Prim.Native.Nat.{_*_, _/_, _≤_, min};
 ghost use lib.ListN.{length, take};
-ghost use Rattle.wave.specs.Sample.{bytesOf};
+ghost use Rattle.form.specs.Sample.{bytesOf};
 ghost use Rattle.wave.specs.File.{put, countIn, samplesIn, told, headerTold, headerIn, fileTold, fileIn};
 
 // What became of a write: so many bytes were written, or the buffer is too short (refusal 30).

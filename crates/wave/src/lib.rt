@@ -1,5 +1,3 @@
-// The WAV file: its header, one sample as two bytes, and the file of given samples.
+// The WAV file of given samples, and its header and samples in a lent buffer.
 
 pub mod file;
-pub mod header;
-pub mod sample;

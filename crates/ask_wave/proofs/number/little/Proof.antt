@@ -8,7 +8,7 @@ use native.Mathlib.Omega.{arith}
 use borrow.Author.Needs.{needs}
 use lib.ListN.{set}
 use lib.Seq.{sets}
-use Rattle.wave.specs.Form.{le}
+use Rattle.form.specs.Form.{le}
 use Rattle.ask_wave.proofs.number.little.Statement.{statement}
 use Rattle.ask_wave.proofs.number.little.Tie as tie
 

@@ -10,7 +10,7 @@ use mir.Val.{Fits}
 use lib.ListN.{length, take, drop}
 use lib.Seq.{length-take-le, take-at}
 use lib.Ieee.{binary32, fits}
-use Rattle.wave.specs.Sample.{bytesOf}
+use Rattle.form.specs.Sample.{bytesOf}
 use Rattle.wave.specs.File.{put}
 use Rattle.sheet.specs.declared.note.Note.{Note}
 use Rattle.handed.proofs.Passing.{passing}

@@ -6,7 +6,7 @@ use native.Mathlib.Omega.{arith}
 use borrow.Author.Needs.{needs}
 use borrow.Author.Tests.{not-true, not-false}
 use lib.ListN.{length}
-use Rattle.wave.specs.Form.{header, oldSize}
+use Rattle.form.specs.Form.{header, oldSize}
 use Rattle.wave.specs.File.{put}
 use Rattle.wave.proofs.Writes.{header-put}
 use Rattle.sheet.specs.Answers.{answered}

@@ -3,7 +3,7 @@ use mathlib.Core.Path.{_≡_, refl, sym}
 use Prim.Native.Nat.{_≤_, _-_}
 use native.Mathlib.Omega.{arith}
 use lib.ListN.{length, take, length-set}
-use Rattle.wave.specs.Sample.{bytesOf}
+use Rattle.form.specs.Sample.{bytesOf}
 use Rattle.wave.specs.File.{put}
 use Rattle.wave.proofs.Writes.{put-none, one-more}
 use Rattle.wave.proofs.file.fill.Statement.{statement}

@@ -4,7 +4,7 @@ use Prim.Native.Nat.{ℕ, _-_, _/_, min}
 use native.Mathlib.Omega.{arith}
 use borrow.Author.Needs.{needs}
 use lib.ListN.{length, take}
-use Rattle.wave.specs.Sample.{bytesOf}
+use Rattle.form.specs.Sample.{bytesOf}
 use Rattle.wave.specs.File.{put, countIn, samplesIn}
 use Rattle.wave.proofs.Writes.{put-none, put-lent}
 use Rattle.wave.proofs.file.write_samples.Statement.{statement}

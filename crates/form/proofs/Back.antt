@@ -13,9 +13,9 @@ use lib.Seq.{drop-at}
 use lib.Ieee.{Float, nan, inf, fin, binary32, up, down, mul}
 use borrow.Author.Tests.{le-leb, lt-leb}
 use Rattle.ieee.specs.Constants.{sampleScale}
-use Rattle.wave.specs.Form.{le, header}
-use Rattle.wave.specs.Sample.{clamp, halfUp, whole16, sample16, word, bytesOf, number16, numbersOf}
-use Rattle.wave.proofs.Published.{header-length}
+use Rattle.form.specs.Form.{le, header}
+use Rattle.form.specs.Sample.{clamp, halfUp, whole16, sample16, word, bytesOf, number16, numbersOf}
+use Rattle.form.proofs.Published.{header-length}
 
 -- ---- bytes of any number, the lower first
 

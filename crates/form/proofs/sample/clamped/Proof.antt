@@ -1,9 +1,9 @@
 -- Each return of `clamped` is one case of the definition, by the two tests that led there. Assumes nothing.
 use mathlib.Core.Path.{sym}
 use lib.Ieee.{neg, ofBits}
-use Rattle.wave.proofs.Scaled.{clamp-below, clamp-above, clamp-between}
-use Rattle.wave.proofs.sample.clamped.Statement.{statement}
-use Rattle.wave.proofs.sample.clamped.Tie as tie
+use Rattle.form.proofs.Scaled.{clamp-below, clamp-above, clamp-between}
+use Rattle.form.proofs.sample.clamped.Statement.{statement}
+use Rattle.form.proofs.sample.clamped.Tie as tie
 
 returns : tie.Need-returns
 unfolding neg ofBits

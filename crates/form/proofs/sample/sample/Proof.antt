@@ -6,10 +6,10 @@ use native.Mathlib.Omega.{arith}
 use borrow.Author.Needs.{needs}
 use lib.Ieee.{Float, binary32, mul, ofBits}
 use Rattle.ieee.specs.Constants.{sampleScale}
-use Rattle.wave.specs.Sample.{AtMostScale, whole16, sample16, word}
-use Rattle.wave.proofs.Scaled.{clamp-small, product, whole-small, stored-nan, stored-below, stored-above}
-use Rattle.wave.proofs.sample.sample.Statement.{statement}
-use Rattle.wave.proofs.sample.sample.Tie as tie
+use Rattle.form.specs.Sample.{AtMostScale, whole16, sample16, word}
+use Rattle.form.proofs.Scaled.{clamp-small, product, whole-small, stored-nan, stored-below, stored-above}
+use Rattle.form.proofs.sample.sample.Statement.{statement}
+use Rattle.form.proofs.sample.sample.Tie as tie
 
 -- the product that the tests speak of
 abbrev scaled : tie.After-clamped → Float

@@ -1,7 +1,7 @@
 // Samples as bytes: one f32 becomes a 16-bit number, stored as two bytes, the lower first.
 
 ghost use mathlib.Core.Path.{_≡_};
-ghost use Rattle.wave.specs.Sample.{clamp, AtMostScale, nearestWhole, sample16, word};
+ghost use Rattle.form.specs.Sample.{clamp, AtMostScale, nearestWhole, sample16, word};
 
 // x, or the end of -1..1 that it lies past; NaN stays NaN.
 fn clamped(x: f32) -> f32

@@ -3,9 +3,9 @@ use mathlib.Core.Logic.{⊎-elim}
 use native.Mathlib.Omega.{arith}
 use lib.Dec.{T}
 use lib.Ieee.{binary32, fits, ofBits}
-use Rattle.wave.proofs.Halves.{Halved, halved-below, halved-not-below}
-use Rattle.wave.proofs.sample.nearest.Statement.{statement}
-use Rattle.wave.proofs.sample.nearest.Tie as tie
+use Rattle.form.proofs.Halves.{Halved, halved-below, halved-not-below}
+use Rattle.form.proofs.sample.nearest.Statement.{statement}
+use Rattle.form.proofs.sample.nearest.Tie as tie
 
 -- whichever way it came, the size is one that the laws speak of
 size-halved : (c : tie.Joined1) → Halved (c .before .args .p) (c .if1 .size)

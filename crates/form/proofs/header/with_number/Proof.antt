@@ -6,9 +6,9 @@ use lib.Dec.{lit≤}
 use mir.Syntax.{w8, w64}
 use mir.Val.{Fits}
 use borrow.Author.Needs.{needs}
-use Rattle.wave.specs.Form.{le}
-use Rattle.wave.proofs.header.with_number.Statement.{statement}
-use Rattle.wave.proofs.header.with_number.Tie as tie
+use Rattle.form.specs.Form.{le}
+use Rattle.form.proofs.header.with_number.Statement.{statement}
+use Rattle.form.proofs.header.with_number.Tie as tie
 
 -- what a byte and its place ask for, over plain numbers
 byte : (v : ℕ) → Fits w8 (v % 256)

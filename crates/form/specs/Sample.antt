@@ -7,7 +7,7 @@ use lib.Dec.{leb}
 use lib.IntN.{ℤ, pos, negsuc, negℤ}
 use lib.Ieee.{Float, nan, inf, fin, binary32, up, down, mul, lt}
 use Rattle.ieee.specs.Constants.{minusOne, one, sampleScale}
-use Rattle.wave.specs.Form.{le}
+use Rattle.form.specs.Form.{le}
 
 -- "clamp to −1..1": what is neither below nor above stays, so NaN stays NaN
 unfoldable pub clamp : Float → Float

@@ -15,7 +15,7 @@ use borrow.Author.Tests.{ltb-true, ltb-false}
 use Rattle.ieee.specs.Constants.{minusOne, one, plusZero, sampleScale}
 use Rattle.ieee.proofs.Nonnegative.{less-or-equal}
 use Rattle.ieee.proofs.Sign.{round-neg}
-use Rattle.wave.specs.Sample.{clamp, halfUp, nearestWhole, AtMostScale, whole16, word}
+use Rattle.form.specs.Sample.{clamp, halfUp, nearestWhole, AtMostScale, whole16, word}
 
 -- ---- clamped
 

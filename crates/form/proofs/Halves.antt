@@ -16,7 +16,7 @@ use lib.Ieee.Nearest.{div-same}
 use borrow.Author.Tests.{ltb-true, ltb-false}
 use Rattle.ieee.specs.Constants.{minusOne, plusZero}
 use Rattle.ieee.proofs.Nonnegative.{in-units}
-use Rattle.wave.specs.Sample.{halfUp, nearestWhole, AtMostScale}
+use Rattle.form.specs.Sample.{halfUp, nearestWhole, AtMostScale}
 
 -- ---- what `halfUp` is: the h with h - 1/2 ≤ n / d < h + 1/2, the whole number nearest to n / d, and the larger of two that are as near
 pub half-up-nearest : (n d : ℕ) → 0 < d → (2 * d * halfUp n d ≤ 2 * n + d) × (2 * n + d < 2 * d * halfUp n d + 2 * d)

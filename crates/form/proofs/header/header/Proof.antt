@@ -1,8 +1,8 @@
 -- The form with its four numbers stored is the header of the definition, byte by byte. Assumes nothing.
 use borrow.Author.Needs.{needs}
-use Rattle.wave.specs.Form.{header}
-use Rattle.wave.proofs.header.header.Statement.{statement}
-use Rattle.wave.proofs.header.header.Tie as tie
+use Rattle.form.specs.Form.{header}
+use Rattle.form.proofs.header.header.Statement.{statement}
+use Rattle.form.proofs.header.header.Tie as tie
 
 with-number-requires : tie.Need-with-number-requires
 with-number-requires c κs = search needs

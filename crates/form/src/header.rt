@@ -4,7 +4,7 @@
 ghost use mathlib.Core.Path.{_≡_};
 ghost use Prim.Native.Nat.{_≤_};
 ghost use lib.Seq.{sets};
-ghost use Rattle.wave.specs.Form.{le, header};
+ghost use Rattle.form.specs.Form.{le, header};
 
 // A header with the four bytes of a number at a place, the lower first.
 fn with_number(mut form: [u8; 44], at: usize, v: u64) -> [u8; 44]

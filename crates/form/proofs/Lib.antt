@@ -1,0 +1,5 @@
+pub mod Back
+pub mod Examples
+pub mod Halves
+pub mod Published
+pub mod Scaled
