@@ -17,7 +17,7 @@ use Rattle.sheet.specs.Parts.{lengthOf}
 use Rattle.handed.specs.Check.{isSheet}
 use Rattle.handed.proofs.Passing.{passing}
 use Rattle.evaluator.specs.Samples.{samplesFrom}
-use Rattle.evaluator.specs.Placing.{placed}
+use Rattle.mixing.specs.Placing.{placed}
 use Rattle.engine.specs.Stream.{fileOf, nextOf, nextIn}
 use Rattle.engine.proofs.Files.{sample-bytes, written-count}
 use Rattle.engine.proofs.HandedOn.{file-passing, next-samples, next-header-there}

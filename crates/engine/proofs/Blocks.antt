@@ -14,8 +14,8 @@ use Rattle.sheet.specs.declared.sheet.Sheet.{Sheet}
 use Rattle.sheet.specs.Parts.{lengthOf}
 use Rattle.handed.specs.Check.{isSheet}
 use Rattle.evaluator.specs.Samples.{samplesFrom}
-use Rattle.evaluator.specs.Placing.{placed}
-use Rattle.evaluator.specs.Mixing.{mixAll}
+use Rattle.mixing.specs.Placing.{placed}
+use Rattle.mixing.specs.Mixing.{mixAll}
 use Rattle.evaluator.proofs.Samples.{samples-length}
 use Rattle.evaluator.proofs.Rendered.{Fitting, mixed-is}
 use Rattle.engine.proofs.Files.{blocks-more, blocks-length}

@@ -22,8 +22,9 @@ use Rattle.sheet.specs.Parts.{lengthOf}
 use Rattle.sheet.specs.Refusals.{going, refused}
 use Rattle.handed.specs.Check.{isSheet}
 use Rattle.handed.proofs.Passing.{passing}
-use Rattle.evaluator.specs.Samples.{Placed, samplesFrom}
-use Rattle.evaluator.specs.Placing.{placed}
+use Rattle.mixing.specs.Sounding.{Placed}
+use Rattle.evaluator.specs.Samples.{samplesFrom}
+use Rattle.mixing.specs.Placing.{placed}
 use Rattle.evaluator.proofs.Samples.{samples-length, samples-append}
 use Rattle.engine.specs.Files.{headerIn, writtenOf, writtenIn}
 use Rattle.engine.specs.Stream.{countIn}

@@ -19,7 +19,7 @@ use Rattle.sheet.specs.Refusals.{refused}
 use Rattle.handed.specs.Check.{isSheet}
 use Rattle.handed.proofs.Passing.{passing}
 use Rattle.evaluator.specs.Samples.{samplesFrom}
-use Rattle.evaluator.specs.Placing.{placed}
+use Rattle.mixing.specs.Placing.{placed}
 use Rattle.evaluator.proofs.Samples.{samples-append}
 use Rattle.engine.specs.Files.{headerOf, headerIn, writtenOf, writtenIn}
 use Rattle.engine.specs.Stream.{fileOf, countIn, isSampleAt, samplesNext, nextOf, nextIn}

@@ -15,7 +15,7 @@ use Rattle.sheet.specs.Parts.{lengthOf}
 use Rattle.sheet.specs.Refusals.{Outcome, going, refused, _>>_, refuse_on_unless_, refuse_on_if_}
 use Rattle.handed.specs.Check.{isSheet}
 use Rattle.evaluator.specs.Samples.{samplesFrom}
-use Rattle.evaluator.specs.Placing.{placed}
+use Rattle.mixing.specs.Placing.{placed}
 
 -- ---- the header
 

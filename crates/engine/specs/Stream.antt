@@ -13,7 +13,7 @@ use Rattle.sheet.specs.Parts.{lengthOf}
 use Rattle.sheet.specs.Refusals.{Outcome, going, refused}
 use Rattle.handed.specs.Check.{isSheet}
 use Rattle.evaluator.specs.Samples.{samplesFrom}
-use Rattle.evaluator.specs.Placing.{placed}
+use Rattle.mixing.specs.Placing.{placed}
 use Rattle.engine.specs.Files.{headerOf, writtenOf}
 
 -- the bytes of a sheet's file; a sheet that does not pass the check has none

@@ -5,7 +5,8 @@ use mathlib.Core.List.{[], _∷_}
 use Prim.Native.Nat.{ℕ}
 use lib.Ieee.{Float, binary32, add}
 use Rattle.ieee.specs.Constants.{minusZero, one}
-use Rattle.evaluator.specs.Samples.{Placed, nothing, value, soundsAt, joinedBy, withNote, heardFrom, sampleAt, valueOf, samplesFrom}
+use Rattle.mixing.specs.Sounding.{Placed, soundsAt}
+use Rattle.evaluator.specs.Samples.{nothing, value, joinedBy, withNote, heardFrom, sampleAt, valueOf, samplesFrom}
 use Rattle.evaluator.proofs.Fronts.{lastEnd}
 use Rattle.evaluator.proofs.Windows.{windowed}
 

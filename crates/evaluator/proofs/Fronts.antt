@@ -11,9 +11,10 @@ use lib.ListN.{length, drop}
 use lib.Ieee.{Float, binary32, add}
 use borrow.Author.Tests.{lt-ltb, le-ltb, ltb-true, ltb-false, leb-false}
 use Rattle.instrument.specs.Fill.{mixed}
-use Rattle.evaluator.specs.Samples.{Placed, Heard, nothing, value, endOf, soundsAt, joinedBy, withNote, heardFrom, sampleAt, valueOf, samplesFrom}
-use Rattle.evaluator.specs.Mixing.{mixAt, mixOne, mixAll}
-use Rattle.evaluator.proofs.Sounding.{sounds-after, mix-true, mix-false}
+use Rattle.mixing.specs.Sounding.{Placed, endOf, soundsAt}
+use Rattle.evaluator.specs.Samples.{Heard, nothing, value, joinedBy, withNote, heardFrom, sampleAt, valueOf, samplesFrom}
+use Rattle.mixing.specs.Mixing.{mixAt, mixOne, mixAll}
+use Rattle.mixing.proofs.Sounding.{sounds-after, mix-true, mix-false}
 
 -- each note starts at or before the largest end so far
 pub data Joined : ℕ → List Placed → Type 0 where

@@ -1,11 +1,7 @@
 pub mod Examples
 pub mod Fronts
 pub mod Owned
-pub mod Pieces
 pub mod Places
-pub mod Players
 pub mod Rendered
 pub mod Samples
-pub mod Sounding
-pub mod Walk
 pub mod Windows

@@ -13,8 +13,8 @@ use Rattle.sheet.specs.declared.sheet.Sheet.{Sheet}
 use Rattle.sheet.specs.Lengths as lengths
 use Rattle.sheet.specs.Lengths.{soundingOf, samplesOf, longestOf}
 use Rattle.sheet.specs.Parts.{cut, countsOf, partsOf, total, instrumentsOf, releasesOf, lengthOf}
-use Rattle.evaluator.specs.Samples.{Placed, endOf}
-use Rattle.evaluator.specs.Placing.{nobody, playerOf, soundsOf, takesOf, placedNote, placedFrom, placedParts, placed}
+use Rattle.mixing.specs.Sounding.{Placed, endOf}
+use Rattle.mixing.specs.Placing.{nobody, playerOf, soundsOf, takesOf, placedNote, placedFrom, placedParts, placed}
 use Rattle.evaluator.proofs.Fronts.{Joined, none, more, lastEnd}
 
 module _ (rate : ℕ) (is : List Instrument) where

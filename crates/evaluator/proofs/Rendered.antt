@@ -18,8 +18,8 @@ use Rattle.sheet.proofs.Lengths.{takes-within}
 use Rattle.handed.specs.Check.{notePasses, isSheet}
 use Rattle.handed.proofs.Alls.{all-at}
 use Rattle.handed.proofs.Passing.{passing, Plays, plays}
-use Rattle.evaluator.specs.Placing.{takesOf, placed}
-use Rattle.evaluator.specs.Mixing.{mixAll}
+use Rattle.mixing.specs.Placing.{takesOf, placed}
+use Rattle.mixing.specs.Mixing.{mixAll}
 use Rattle.evaluator.proofs.Fronts.{Joined, mix-window}
 use Rattle.evaluator.proofs.Places.{Longer, sounds-same, sheet-end, sheet-joined}
 use Rattle.evaluator.proofs.Windows.{windowed}

@@ -5,7 +5,8 @@ use Prim.Native.Nat.{ℕ, zero, suc, _+_}
 use native.Mathlib.Nat.{add-zero, zero-add, add-suc, suc-add}
 use lib.ListN.{length}
 use lib.Ieee.{Float}
-use Rattle.evaluator.specs.Samples.{Placed, sampleAt, valueOf, samplesFrom}
+use Rattle.mixing.specs.Sounding.{Placed}
+use Rattle.evaluator.specs.Samples.{sampleAt, valueOf, samplesFrom}
 
 module _ (ps : List Placed) where
   pub samples-length : (k n : ℕ) → length (samplesFrom ps k n) ≡ n

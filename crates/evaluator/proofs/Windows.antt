@@ -14,8 +14,9 @@ use Rattle.sheet.specs.declared.sheet.Sheet.{Sheet}
 use Rattle.sheet.specs.Parts.{lengthOf}
 use Rattle.sheet.specs.Refusals.{going, refused, _>>_, refuse_on_unless_}
 use Rattle.handed.specs.Check.{isSheet}
-use Rattle.evaluator.specs.Samples.{Placed, sampleAt, valueOf, samplesFrom}
-use Rattle.evaluator.specs.Placing.{placed}
+use Rattle.mixing.specs.Sounding.{Placed}
+use Rattle.evaluator.specs.Samples.{sampleAt, valueOf, samplesFrom}
+use Rattle.mixing.specs.Placing.{placed}
 use Rattle.evaluator.specs.Windows.{windowOf, filledBy, windowIn}
 use Rattle.evaluator.proofs.Samples.{samples-length}
 

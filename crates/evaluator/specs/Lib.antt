@@ -1,4 +1,2 @@
-pub mod Mixing
-pub mod Placing
 pub mod Samples
 pub mod Windows

@@ -1,25 +1,11 @@
 -- The samples of notes that have their places. Document 01: "The first value at a sample is stored, later ones are added to it." So sample k is what
 -- a walk over the notes leaves there, and -0.0 stored first stays -0.0. Assumes nothing.
-use mathlib.Core.Bool.{Bool, true, false, _&&_}
+use mathlib.Core.Bool.{true, false}
 use mathlib.Core.List.{List, [], _∷_}
-use Prim.Native.Nat.{ℕ, zero, suc, _+_, _-_}
-use lib.Dec.{leb, ltb}
+use Prim.Native.Nat.{ℕ, zero, suc, _-_}
 use lib.Ieee.{Float, binary32, add}
 use Rattle.ieee.specs.Constants.{plusZero}
-
--- a note in its place: it sounds from sample `start` on for `sounds` samples, and `sound i` is its own sample i
-pub record Placed : Type 0 where
-  pub start : ℕ
-  pub sounds : ℕ
-  pub sound : ℕ → Float
-
--- the sample behind its last
-abbrev pub endOf : Placed → ℕ
-endOf p = p .start + p .sounds
-
--- whether it sounds at sample k
-unfoldable pub soundsAt : ℕ → Placed → Bool
-soundsAt k p = leb (p .start) k && ltb k (endOf p)
+use Rattle.mixing.specs.Sounding.{Placed, soundsAt}
 
 -- what stands at a sample: nothing yet, or a value
 pub data Heard : Type 0 where

@@ -10,7 +10,7 @@ use Rattle.sheet.specs.Parts.{lengthOf}
 use Rattle.sheet.specs.Refusals.{Outcome, going, refused, _>>_, refuse_on_unless_}
 use Rattle.handed.specs.Check.{isSheet}
 use Rattle.evaluator.specs.Samples.{samplesFrom}
-use Rattle.evaluator.specs.Placing.{placed}
+use Rattle.mixing.specs.Placing.{placed}
 
 -- how many samples a window from `start` on takes, that has room for so many: "28, 29"
 unfoldable pub windowOf : ℕ → Sheet → ℕ → ℕ → Outcome ℕ

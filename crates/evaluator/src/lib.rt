@@ -1,4 +1,3 @@
 // The samples of a sheet, window by window.
 
-pub mod mixing;
 pub mod window;

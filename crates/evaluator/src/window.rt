@@ -4,9 +4,9 @@ ghost use mathlib.Core.Path.{_≡_};
 ghost use lib.ListN.{length};
 ghost use Rattle.sheet.specs.Answers.{answered};
 ghost use Rattle.evaluator.specs.Windows.{windowOf, windowIn};
-use crate::mixing::mix;
 use handed::check::check;
 use lines::names::least;
+use mixing::mixing::mix;
 use sheet::answer::Answer;
 use sheet::sheet::Sheet;
 

@@ -15,7 +15,7 @@ use Rattle.sheet.specs.Refusals.{Outcome, going, refused, _>>=_, _>>_, refuse_o
 use Rattle.sheet.proofs.Outcomes.{then-going, then-refused}
 use Rattle.handed.proofs.Passing.{passing}
 use Rattle.evaluator.specs.Samples.{samplesFrom}
-use Rattle.evaluator.specs.Placing.{placed}
+use Rattle.mixing.specs.Placing.{placed}
 use Rattle.evaluator.proofs.Samples.{samples-length}
 use Rattle.engine.specs.Files.{headerOf, headedBy, headerIn, writtenOf, writtenBy, writtenIn}
 use Rattle.engine.proofs.Files.{whole-file}

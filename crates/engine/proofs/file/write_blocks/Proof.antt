@@ -15,8 +15,8 @@ use Rattle.wave.specs.File.{put}
 use Rattle.sheet.specs.declared.note.Note.{Note}
 use Rattle.handed.proofs.Passing.{passing}
 use Rattle.evaluator.specs.Samples.{samplesFrom}
-use Rattle.evaluator.specs.Placing.{placed}
-use Rattle.evaluator.proofs.Walk.{mix-all-length}
+use Rattle.mixing.specs.Placing.{placed}
+use Rattle.mixing.proofs.Walk.{mix-all-length}
 use Rattle.evaluator.proofs.Owned.{each-tells}
 use Rattle.evaluator.proofs.Rendered.{Fitting}
 use Rattle.engine.proofs.Files.{blocks-none}

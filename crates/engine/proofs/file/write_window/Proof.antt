@@ -12,7 +12,7 @@ use Rattle.sheet.specs.Refusals.{going}
 use Rattle.sheet.specs.Answers.{answered}
 use Rattle.handed.specs.Check.{isSheet}
 use Rattle.handed.proofs.Answers.{checked-passes, checked-length}
-use Rattle.evaluator.specs.Placing.{placed}
+use Rattle.mixing.specs.Placing.{placed}
 use Rattle.engine.proofs.Answers.{written-28, written-29, written-past, written-short, written-room, written-none, written-refused, written-put}
 use Rattle.engine.proofs.Files.{blocks-none}
 use Rattle.engine.proofs.file.write_window.Statement.{statement}

@@ -14,7 +14,7 @@ use Rattle.sheet.specs.Refusals.{going}
 use Rattle.sheet.specs.Answers.{answered}
 use Rattle.handed.specs.Check.{isSheet}
 use Rattle.handed.proofs.Answers.{checked-passes, checked-length}
-use Rattle.evaluator.specs.Placing.{placed}
+use Rattle.mixing.specs.Placing.{placed}
 use Rattle.evaluator.proofs.Owned.{each-tells}
 use Rattle.evaluator.proofs.Rendered.{Fitting, mixed-is}
 use Rattle.evaluator.proofs.Windows.{window-28, window-29, window-taken, window-refused, window-is, windowed-length}

@@ -14,9 +14,9 @@ use Rattle.sheet.specs.declared.sheet.Sheet.{Sheet}
 use Rattle.sheet.specs.Parts.{cut, partsOf, instrumentsOf}
 use Rattle.sheet.proofs.Basics.{take-least}
 use Rattle.handed.proofs.Cuts.{part-taken, part-left}
-use Rattle.evaluator.specs.Samples.{Placed, endOf}
-use Rattle.evaluator.specs.Placing.{playerOf, soundsOf, takesOf, placedNote, placedFrom, placedParts, placed}
-use Rattle.evaluator.specs.Mixing.{mixOne, mixAll}
+use Rattle.mixing.specs.Sounding.{Placed, endOf}
+use Rattle.mixing.specs.Placing.{playerOf, soundsOf, takesOf, placedNote, placedFrom, placedParts, placed}
+use Rattle.mixing.specs.Mixing.{mixOne, mixAll}
 
 -- ---- what is mixed so far
 

@@ -1,11 +1,11 @@
 -- The Rust's way to the samples, which the code goes too: note by note into one slice, where a value is added below the largest end of the notes before
--- it and stored from there on. For a sheet that passes the check this is the plain meaning (`Samples`): `proofs/Fronts.antt`. Assumes nothing.
+-- it and stored from there on. For a sheet that passes the check this is the plain meaning: `evaluator`'s `Samples` and `Fronts`. Assumes nothing.
 use mathlib.Core.Bool.{true, false}
 use mathlib.Core.List.{List, [], _∷_}
 use Prim.Native.Nat.{ℕ, suc, _-_, max}
 use lib.Ieee.{Float}
 use Rattle.instrument.specs.Fill.{mixed}
-use Rattle.evaluator.specs.Samples.{Placed, endOf, soundsAt}
+use Rattle.mixing.specs.Sounding.{Placed, endOf, soundsAt}
 
 -- the sample k where x stands, with a note mixed in: added below `covered`, stored from there on
 unfoldable pub mixAt : ℕ → Placed → ℕ → Float → Float

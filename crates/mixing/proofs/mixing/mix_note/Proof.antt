@@ -1,10 +1,10 @@
 -- `mix_note` fills the piece of the slice in which the note sounds, and that is the note mixed into the slice (`Pieces`). Assumes nothing.
 use mathlib.Core.Path.{refl}
 use borrow.Author.Needs.{needs}
-use Rattle.evaluator.specs.Placing.{soundsOf}
-use Rattle.evaluator.proofs.Pieces.{note-mixes}
-use Rattle.evaluator.proofs.mixing.mix_note.Statement.{statement}
-use Rattle.evaluator.proofs.mixing.mix_note.Tie as tie
+use Rattle.mixing.specs.Placing.{soundsOf}
+use Rattle.mixing.proofs.Pieces.{note-mixes}
+use Rattle.mixing.proofs.mixing.mix_note.Statement.{statement}
+use Rattle.mixing.proofs.mixing.mix_note.Tie as tie
 
 add-first : tie.Need-add-first
 add-first c = search needs

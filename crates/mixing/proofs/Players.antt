@@ -16,7 +16,7 @@ use Rattle.instrument.specs.declared.machine.Instrument.{Instrument}
 use Rattle.sheet.specs.declared.note.Note.{Note}
 use Rattle.sheet.specs.Lengths.{soundingOf, samplesOf}
 use Rattle.sheet.proofs.Lengths.{samples-most}
-use Rattle.evaluator.specs.Placing.{nobody, playerOf, soundsOf}
+use Rattle.mixing.specs.Placing.{nobody, playerOf, soundsOf}
 
 -- no note sounds longer than one note may
 pub sounds-most : (rate : ℕ) (by : Instrument) (n : Note) → soundsOf rate by n ≤ noteMost

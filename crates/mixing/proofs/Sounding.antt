@@ -6,8 +6,8 @@ use lib.Dec.{leb}
 use lib.Ieee.{Float}
 use borrow.Author.Tests.{le-leb, lt-leb, lt-ltb, le-ltb}
 use Rattle.instrument.specs.Fill.{mixed}
-use Rattle.evaluator.specs.Samples.{Placed, endOf, soundsAt}
-use Rattle.evaluator.specs.Mixing.{mixAt}
+use Rattle.mixing.specs.Sounding.{Placed, endOf, soundsAt}
+use Rattle.mixing.specs.Mixing.{mixAt}
 
 pub sounds-in : (k : ℕ) (p : Placed) → p .start ≤ k → k < endOf p → soundsAt k p ≡ true
 unfolding soundsAt

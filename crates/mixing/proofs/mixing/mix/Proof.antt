@@ -12,13 +12,13 @@ use Rattle.instrument.specs.declared.machine.Instrument.{Instrument}
 use Rattle.sheet.specs.Parts.{instrumentsOf}
 use Rattle.sheet.specs.declared.note.Note.{Note}
 use Rattle.handed.proofs.Turns.{less, more, meets, below, small-place, under, fewer, in-all, ends-within, sum-fits, at-next}
-use Rattle.evaluator.specs.Placing.{nobody, playerOf, soundsOf, placedNote, placed}
-use Rattle.evaluator.specs.Mixing.{mixOne}
-use Rattle.evaluator.proofs.Pieces.{note-none, note-sounds, note-reach}
-use Rattle.evaluator.proofs.Players.{player-sounds, player-is}
-use Rattle.evaluator.proofs.Walk.{Going, going-start, going-same, going-on, going-end, atPart, atNote, sheet-begins, part-done, parts-end, note-step}
-use Rattle.evaluator.proofs.mixing.mix.Statement.{statement}
-use Rattle.evaluator.proofs.mixing.mix.Tie as tie
+use Rattle.mixing.specs.Placing.{nobody, playerOf, soundsOf, placedNote, placed}
+use Rattle.mixing.specs.Mixing.{mixOne}
+use Rattle.mixing.proofs.Pieces.{note-none, note-sounds, note-reach}
+use Rattle.mixing.proofs.Players.{player-sounds, player-is}
+use Rattle.mixing.proofs.Walk.{Going, going-start, going-same, going-on, going-end, atPart, atNote, sheet-begins, part-done, parts-end, note-step}
+use Rattle.mixing.proofs.mixing.mix.Statement.{statement}
+use Rattle.mixing.proofs.mixing.mix.Tie as tie
 
 abbrev Inv-loop2 : tie.InvT-loop2
 Inv-loop2 out₀ rate from sheet instruments parts covered₀ n₀ p stop at₀ out covered n at =

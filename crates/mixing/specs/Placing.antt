@@ -11,7 +11,7 @@ use Rattle.sheet.specs.declared.note.Note.{Note}
 use Rattle.sheet.specs.declared.sheet.Sheet.{Sheet}
 use Rattle.sheet.specs.Lengths.{soundingOf, samplesOf}
 use Rattle.sheet.specs.Parts.{partsOf, instrumentsOf}
-use Rattle.evaluator.specs.Samples.{Placed}
+use Rattle.mixing.specs.Sounding.{Placed}
 
 -- an instrument for an index past the table, which refusal 28 turns away: its notes have no number of samples, and none sounds
 abbrev pub nobody : Instrument

@@ -15,11 +15,11 @@ use Rattle.tone.specs.Time.{noteMost}
 use Rattle.instrument.specs.declared.machine.Instrument.{Instrument}
 use Rattle.instrument.specs.Fill.{mixed, mixedFrom, countFrom, filled, soundFrom}
 use Rattle.sheet.specs.declared.note.Note.{Note}
-use Rattle.evaluator.specs.Samples.{Placed, endOf, soundsAt}
-use Rattle.evaluator.specs.Placing.{soundsOf, placedNote}
-use Rattle.evaluator.specs.Mixing.{mixAt, mixOne}
-use Rattle.evaluator.proofs.Players.{sounds-most}
-use Rattle.evaluator.proofs.Sounding.{mix-true, mix-false, sounds-in, sounds-before, sounds-after}
+use Rattle.mixing.specs.Sounding.{Placed, endOf, soundsAt}
+use Rattle.mixing.specs.Placing.{soundsOf, placedNote}
+use Rattle.mixing.specs.Mixing.{mixAt, mixOne}
+use Rattle.mixing.proofs.Players.{sounds-most}
+use Rattle.mixing.proofs.Sounding.{mix-true, mix-false, sounds-in, sounds-before, sounds-after}
 
 module _ (covered : ℕ) (p : Placed) where
   mix-append : (k : ℕ) (xs ys : List Float) → mixOne covered p k (xs ++ ys) ≡ mixOne covered p k xs ++ mixOne covered p (k + length xs) ys

@@ -1,0 +1,4 @@
+pub mod Pieces
+pub mod Players
+pub mod Sounding
+pub mod Walk

@@ -1,0 +1,3 @@
+pub mod Mixing
+pub mod Placing
+pub mod Sounding
