@@ -1,4 +1,4 @@
--- The answers to some of document 01's sheets by example, computed, and numerals at the places where they get longer. Assumes nothing.
+-- The answers to some of document 01's sheets by example, computed. Assumes nothing.
 use mathlib.Core.Path.{_≡_, refl}
 use mathlib.Core.List.{List, [], _∷_, map}
 use Prim.Native.String.{String}
@@ -6,11 +6,7 @@ use lib.ListN.{length}
 use lib.Ieee.{round, add, sub, mul, div, lt, ofBits, ofInt}
 use Rattle.text.specs.Quoted.{bytes}
 use Rattle.sheet.specs.Refusals.{_>>=_, _>>_, refuse_on_unless_, refuse_on_if_, refuse_on_without_}
-use Rattle.cue.specs.Answer.{numeral, answerOf}
-
-pub numerals : map numeral (0 ∷ 9 ∷ 10 ∷ 26 ∷ 99 ∷ 100 ∷ 32769 ∷ []) ≡ map bytes ("0" ∷ "9" ∷ "10" ∷ "26" ∷ "99" ∷ "100" ∷ "32769" ∷ [])
-unfolding numeral bytes
-numerals = refl
+use Rattle.cue.specs.Answer.{answerOf}
 
 -- sheets 4, 5 and 8, and one whose third line is refused
 abbrev pub refusals : List (String × String)

@@ -1,4 +1,3 @@
 pub mod Examples
-pub mod Numerals
 pub mod Pieces
 pub mod Readings

@@ -11,7 +11,8 @@ use Rattle.meaning.specs.Sheets.{Read, sheetRead}
 use Rattle.meaning.specs.Layout.{sheetOf, laidOut, readingOf}
 use Rattle.meaning.proofs.Handed.{reading-passes, empty-passes}
 use Rattle.engine.specs.Stream.{fileOf}
-use Rattle.cue.specs.Answer.{refusedLine, answerTo, answerOf}
+use Rattle.refusal.specs.Line.{refusedLine}
+use Rattle.cue.specs.Answer.{answerTo, answerOf}
 
 module _ (source : List ℕ) where
   sheet-passes : isSheet 44100 (readingOf 44100 source .sheet) ≡ true

@@ -1,7 +1,6 @@
 // The program `cue`: it reads a cue sheet from standard input and writes its WAV file to standard output, or one line that says why the sheet is
 // refused. What a text means, and every byte of the file, is promised by the crates below; here their answers are handed on, each byte once and in order.
 
-mod line;
 mod output;
 
 ghost use mathlib.Core.Path.{_≡_};
@@ -11,13 +10,14 @@ ghost use lib.ListN.{length};
 ghost use Rattle.io.specs.Counts.{Counts};
 ghost use Rattle.handed.specs.Check.{isSheet};
 ghost use Rattle.engine.specs.Stream.{fileOf, nextOf, nextIn};
-ghost use Rattle.cue.specs.Answer.{answerOf, refusedLine};
+ghost use Rattle.refusal.specs.Line.{refusedLine};
+ghost use Rattle.cue.specs.Answer.{answerOf};
 ghost use Rattle.cue.specs.Handing.{Fresh, Whole};
-use crate::line::refused_line;
 use crate::output::Output;
 use engine::stream::next_bytes;
 use libc::STDIN_FILENO;
 use parser::reader::read;
+use refusal::line::refused_line;
 use sheet::sheet::Sheet;
 
 // One byte more than a source may have is enough to see that it has too many.

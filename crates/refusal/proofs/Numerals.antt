@@ -9,7 +9,7 @@ use lib.Dec.{leb, lit<}
 use borrow.Author.Tests.{lt-ltb, le-ltb, leb-true, leb-false}
 use Rattle.text.specs.Quoted.{bytes}
 use Rattle.io.specs.Digits.{glyph, digits, Fewest}
-use Rattle.cue.specs.Answer.{digitsIn, numeral, refusedLine}
+use Rattle.refusal.specs.Line.{digitsIn, numeral, refusedLine}
 
 glyph-is : (d : ℕ) → d < 10 → 48 + d ≡ glyph d
 glyph-is d h = rw (lt-ltb d 10 h)

@@ -1,11 +1,11 @@
 -- `refused_line` adds the line's five words one behind the other. Assumes nothing.
-use native.Mathlib.Omega.{arith}
-use Rattle.io.proofs.Counting.{counts}
+use Prim.Native.Nat.{_≤_}
+use lib.ListN.{length}
 use Rattle.text.specs.Quoted.{bytes}
-use Rattle.cue.proofs.Numerals.{line-is}
+use Rattle.refusal.proofs.Starts.{line-made, line-none, line-written}
 use borrow.Author.Needs.{needs}
-use Rattle.cue.proofs.line.refused_line.Statement.{statement}
-use Rattle.cue.proofs.line.refused_line.Tie as tie
+use Rattle.refusal.proofs.line.refused_line.Statement.{statement}
+use Rattle.refusal.proofs.line.refused_line.Tie as tie
 
 slice-aggregate-add-word : tie.Need-slice-aggregate-add-word
 slice-aggregate-add-word c = search needs
@@ -31,26 +31,32 @@ slice-aggregate-add-word-3 c = search needs
 add-word-requires-3 : tie.Need-add-word-requires-3
 add-word-requires-3 c κs = search needs
 
+returns : tie.Need-returns
+returns c = line-none _ _ _ (c .if1 .taken)
+
 same-length : tie.Need-same-length
 same-length c = search needs
 
-returns : tie.Need-returns
+returns-2 : tie.Need-returns-2
 unfolding bytes
-returns c =
+returns-2 c =
     let e = c .before .before in
     let d = e .before .before .before .before .before in
     let b = d .before .before .before .before in
     let n = b .before .before .before .before .before in
     let a = n .before .before .before .before in
-    let s = a .before .before .before .before in (
-      counts _ _ (omega arith),
-      line-is (s .args .number) (s .args .line) (a .add-word .ensures .1) (n .add-number .ensures .1) (b .add-word2 .ensures .1) (d .add-number2 .ensures .1) (e .add-word3 .ensures .1),
-    )
+    let s = a .before .before .before .before .before in
+    let room : 50 ≤ length (s .args .text .now) = a .before .before .before .if1 .left in
+    let made =
+    line-made (s .args .number) (s .args .line) (a .add-word .ensures .0) (a .add-word .ensures .1) (n .add-number .ensures .0 .0) (n .add-number .ensures .1)
+    (b .add-word2 .ensures .0) (b .add-word2 .ensures .1) (d .add-number2 .ensures .0 .0) (d .add-number2 .ensures .1) (e .add-word3 .ensures .0) (e .add-word3 .ensures .1) in
+    line-written (s .args .number) (s .args .line) (s .args .text .now) room made
 
 pub refused-line-spec : {M : Type 1} → statement M
 refused-line-spec =
     tie.close
     (tie.spec
+    returns
     slice-aggregate-add-word
     add-word-requires
     add-number-requires
@@ -60,4 +66,4 @@ refused-line-spec =
     slice-aggregate-add-word-3
     add-word-requires-3
     same-length
-    returns)
+    returns-2)

@@ -1,17 +1,15 @@
-// The line that tells of a refusal.
+// The line that tells of a refusal: its words put one behind the other.
 
 ghost use mathlib.Core.Path.{_≡_};
-ghost use mathlib.Core.List.{_++_};
-ghost use Prim.Native.Nat.{_+_, _≤_, _<_};
-ghost use lib.ListN.{length, take};
-ghost use Rattle.io.specs.Counts.{Counts};
-ghost use Rattle.cue.specs.Answer.{numeral, refusedLine};
+ghost use Prim.Native.Nat.{_+_, _≤_};
+ghost use lib.ListN.{length};
+ghost use Rattle.refusal.specs.Line.{numeral, Adds, lineCount, lineIn};
 
 // Puts a word behind the first `at` bytes of a text, and says where it ends.
 fn add_word(text: &mut [u8], at: usize, word: &[u8]) -> usize
     requires { ⌜ at + length (now word) ≤ length (now text) ⌝ }
     ensures end { λ r. ⌜ r ≡ at + length (now (word .entry)) ⌝ }
-    ensures front { λ r. ⌜ take r (now (text .exit)) ≡ take at (now (text .entry)) ++ now (word .entry) ⌝ }
+    ensures bytes { λ _. ⌜ Adds (now (text .entry)) at (now (word .entry)) (now (text .exit)) ⌝ }
 {
     let mut i = 0;
     while i < word.len() {
@@ -24,20 +22,23 @@ fn add_word(text: &mut [u8], at: usize, word: &[u8]) -> usize
 // The same with a number's digits, of which there are 20 at most.
 fn add_number(text: &mut [u8], at: usize, n: u64) -> usize
     requires { ⌜ at + 20 ≤ length (now text) ⌝ }
-    ensures end { λ r. ⌜ (at ≤ r) × (r ≤ at + 20) ⌝ }
-    ensures front { λ r. ⌜ take r (now (text .exit)) ≡ take at (now (text .entry)) ++ numeral n ⌝ }
+    ensures end { λ r. ⌜ (r ≡ at + length (numeral n)) × (r ≤ at + 20) ⌝ }
+    ensures bytes { λ _. ⌜ Adds (now (text .entry)) at (numeral n) (now (text .exit)) ⌝ }
 {
     let mut digits = [0u8; 20];
     let k = io::decimal(n, &mut digits);
     add_word(text, at, &digits[..k])
 }
 
-// Puts the line of a refusal at a text's start, and says how long it is.
+// Puts the line of a refusal at a text's start, and says how long it is. Where the text has under 50 bytes
+// it stays as it was, and the answer is 0.
 pub fn refused_line(number: u32, line: usize, text: &mut [u8]) -> usize
-    requires { ⌜ 50 ≤ length (now text) ⌝ }
-    ensures within { λ r. ⌜ Counts r (now (text .exit)) ⌝ }
-    ensures line { λ r. ⌜ take r (now (text .exit)) ≡ refusedLine number line ⌝ }
+    ensures count { λ r. ⌜ r ≡ lineCount number line (length (now (text .entry))) ⌝ }
+    ensures bytes { λ _. ⌜ now (text .exit) ≡ lineIn number line (now (text .entry)) ⌝ }
 {
+    if text.len() < 50 {
+        return 0;
+    }
     let a = add_word(text, 0, b"refused ");
     let b = add_number(text, a, number as u64);
     let c = add_word(text, b, b" ");

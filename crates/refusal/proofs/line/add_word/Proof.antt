@@ -1,14 +1,15 @@
 -- `add_word` puts the word byte by byte behind what is there. Assumes nothing.
 use mathlib.Core.Path.{_≡_, sym, ap, _∙_}
-use mathlib.Core.List.{List, _++_}
+use mathlib.Core.List.{List}
 use Prim.Native.Nat.{ℕ, _+_, _-_, _≤_}
 use native.Mathlib.Omega.{arith}
 use native.Mathlib.Numerals.{add-one}
-use lib.ListN.{length, take, set, getD}
-use lib.Seq.{paste, paste-zero, paste-suc, length-paste, take-paste, take-all}
+use lib.ListN.{length, set, getD}
+use lib.Seq.{paste, paste-zero, paste-suc, length-paste}
 use borrow.Author.Needs.{needs}
-use Rattle.cue.proofs.line.add_word.Statement.{statement}
-use Rattle.cue.proofs.line.add_word.Tie as tie
+use Rattle.refusal.proofs.Starts.{pasted}
+use Rattle.refusal.proofs.line.add_word.Statement.{statement}
+use Rattle.refusal.proofs.line.add_word.Tie as tie
 
 abbrev Inv-loop : tie.InvT-loop
 Inv-loop text₀ at word i₀ text i = (i ≤ length word) × (text ≡ paste text₀ at word i)
@@ -62,9 +63,7 @@ returns c =
     let l = c .before .loop in
     let all : l .i ≡ length (a .word .now) = omega arith in (
       omega arith,
-      ap (take (a .at + l .i)) (l .inv .1)
-          ∙ take-paste (a .text .now) (a .at) (a .word .now) (l .i) (omega arith) (omega arith)
-          ∙ ap (λ (w : List ℕ). take (a .at) (a .text .now) ++ w) (take-all (l .i) (a .word .now) (omega arith)),
+      λ front behind e p. l .inv .1 ∙ ap (paste (a .text .now) (a .at) (a .word .now)) all ∙ pasted front behind (a .text .now) (a .word .now) (a .at) e p,
     )
 
 pub add-word-spec : {M : Type 1} → statement M
