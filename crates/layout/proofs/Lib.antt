@@ -3,4 +3,3 @@ pub mod Fills
 pub mod Laid
 pub mod Longest
 pub mod Regions
-pub mod Tables

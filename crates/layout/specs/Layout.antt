@@ -1,19 +1,14 @@
--- What the columns of a reading hold, one part and one instrument after the other: each part has its region of the two columns of notes, and each
--- instrument its region of the two columns of operator lines. `counts` has the number of notes of each part, `sizes` that of the operator lines of each
--- instrument. Assumes nothing.
-use mathlib.Core.List.{List, [], _∷_, _++_}
+-- What the columns of a reading hold, one part after the other: each part has its region of the two columns of notes, and `counts` has the number of
+-- notes of each. Assumes nothing.
+use mathlib.Core.List.{List, [], _++_}
 use Prim.Native.Nat.{ℕ, zero, suc, _+_, _*_, max}
 use lib.ListN.{take, getD}
 use lib.Ieee.{Float}
-use Rattle.instrument.specs.Lines.{Line}
-use Rattle.sheet.specs.Capacities.{notesMost, operatorsMost}
+use Rattle.sheet.specs.Capacities.{notesMost}
 use Rattle.layout.specs.Regions.{region}
 use Rattle.sheet.specs.declared.note.Note.{Note}
 use Rattle.columns.specs.Columns.{notesIn}
 use Rattle.sheet.specs.Lengths.{endOf}
-use Rattle.commands.specs.Commands.{linesHeld}
-
--- ---- notes
 
 module _ (counts : List ℕ) (fs : List Float) (is : List ℕ) where
   -- the notes of the part k
@@ -32,17 +27,3 @@ module _ (counts : List ℕ) (fs : List Float) (is : List ℕ) where
   unfolding endOf notesAt
   longestFrom rate releases k zero = 0
   longestFrom rate releases k (suc n) = max (endOf rate releases 0 (notesAt k)) (longestFrom rate releases (k + 1) n)
-
--- ---- instruments
-
-module _ (sizes : List ℕ) (fs : List Float) (ss : List ℕ) where
-  -- the operator lines of the instrument k
-  unfoldable pub linesAt : ℕ → List Line
-  unfolding linesHeld region
-  linesAt k = linesHeld (getD sizes k 0) (region (6 * operatorsMost) k fs) (region (2 * operatorsMost) k ss)
-
-  -- those of the n instruments from k on
-  unfoldable pub linesFrom : ℕ → ℕ → List (List Line)
-  unfolding linesAt
-  linesFrom k zero = []
-  linesFrom k (suc n) = linesAt k ∷ linesFrom (k + 1) n

@@ -1,4 +1,3 @@
-// What was read into columns, laid out in the arrays of a sheet.
+// The notes that were read into columns, laid out in the arrays of a sheet.
 
-pub mod instruments;
 pub mod parts;

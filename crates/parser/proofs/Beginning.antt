@@ -19,7 +19,8 @@ use Rattle.commands.specs.Commands.{clipped, linesHeld}
 use Rattle.tables.specs.Named.{macrosIn}
 use Rattle.lines.specs.Names.{namesIn}
 use Rattle.layout.specs.Regions.{region}
-use Rattle.layout.specs.Layout.{linesAt, linesFrom, notesFrom}
+use Rattle.bank.specs.Bank.{linesAt, linesFrom}
+use Rattle.layout.specs.Layout.{notesFrom}
 use Rattle.layout.proofs.Regions.{region-wide}
 use Rattle.parser.specs.declared.sofar.Sofar.{Sofar}
 use Rattle.meaning.specs.Sheets.{Read, plain, nothingRead, linesRead}

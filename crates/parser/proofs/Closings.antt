@@ -12,7 +12,8 @@ use Rattle.instrument.specs.Lines.{releaseOf}
 use Rattle.sheet.specs.Refusals.{Outcome, going, refused, _>>=_, _>>_, refuse_on_if_, refuse_on_unless_}
 use Rattle.sheet.proofs.Outcomes.{then-going, then-refused}
 use Rattle.part.specs.Columns.{loopsIn}
-use Rattle.layout.specs.Layout.{longestFrom, linesFrom}
+use Rattle.bank.specs.Bank.{linesFrom}
+use Rattle.layout.specs.Layout.{longestFrom}
 use Rattle.layout.specs.Regions.{region}
 use Rattle.meaning.specs.declared.reading.Reading.{Reading}
 use Rattle.parser.specs.declared.sofar.Sofar.{Sofar}

@@ -9,7 +9,7 @@ use Rattle.lines.specs.Lines.{linesOf}
 use Rattle.instrument.specs.Lines.{releaseOf}
 use Rattle.lines.proofs.LinePlaces.{Lined, line-placed}
 use Rattle.sheet.specs.Refusals.{Outcome, going, refused}
-use Rattle.layout.specs.Layout.{linesFrom}
+use Rattle.bank.specs.Bank.{linesFrom}
 use Rattle.parser.specs.declared.sofar.Sofar.{Sofar}
 use Rattle.meaning.specs.Sheets.{Read}
 use Rattle.parser.specs.Columns.{Tables, readIn, readOutcome, Fits, Tabled, Begins, Goes, refusedAt, passedTo}

@@ -22,7 +22,7 @@ use Rattle.operators.specs.OperatorLines.{operatorLines, operatorsRead}
 use Rattle.blocks.specs.Blocks.{linesIn, blockOutcome}
 use Rattle.commands.specs.Commands.{linesHeld}
 use Rattle.layout.specs.Regions.{region}
-use Rattle.layout.specs.Layout.{linesAt, linesFrom}
+use Rattle.bank.specs.Bank.{linesAt, linesFrom}
 use Rattle.layout.proofs.Regions.{lent, back, lent-region, region-wide, back-length, back-here, back-beside}
 use Rattle.lines.specs.Names.{namesIn}
 use Rattle.tables.specs.Tables.{headerOf, headerLine, numberOf, headersAfter}

@@ -11,7 +11,7 @@ use Rattle.lines.specs.Names.{namesIn}
 use Rattle.instrument.specs.Lines.{Line, releaseOf}
 use Rattle.commands.specs.Commands.{linesHeld}
 use Rattle.layout.specs.Regions.{region}
-use Rattle.layout.specs.Layout.{linesAt, linesFrom}
+use Rattle.bank.specs.Bank.{linesAt, linesFrom}
 use Rattle.layout.proofs.Regions.{lent, back, lent-region, region-wide, back-here}
 use Rattle.sheet.specs.Capacities.{macrosMost}
 use Rattle.sheet.specs.Refusals.{Outcome, going, refused}

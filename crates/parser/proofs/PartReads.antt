@@ -15,7 +15,7 @@ use Rattle.part.specs.Body.{Book}
 use Rattle.part.specs.declared.state.State.{State}
 use Rattle.tables.specs.Named.{macrosIn}
 use Rattle.part.specs.Columns.{bookIn}
-use Rattle.layout.specs.Layout.{linesFrom}
+use Rattle.bank.specs.Bank.{linesFrom}
 use Rattle.parser.specs.declared.sofar.Sofar.{Sofar}
 use Rattle.meaning.specs.Parts.{Played, linePlayed}
 use Rattle.meaning.specs.Sheets.{Read, readOf, bookOf, partRead}

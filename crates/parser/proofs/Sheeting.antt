@@ -16,9 +16,10 @@ use Rattle.sheet.specs.Padding.{padded, silence}
 use Rattle.sheet.specs.Refusals.{going}
 use Rattle.sheet.specs.Lengths.{endOf}
 use Rattle.commands.specs.Commands.{instrumentOf}
-use Rattle.layout.specs.Layout.{notesAt, notesFrom, longestFrom, linesFrom}
+use Rattle.bank.specs.Bank.{linesFrom}
+use Rattle.layout.specs.Layout.{notesAt, notesFrom, longestFrom}
 use Rattle.layout.proofs.Laid.{notes-many}
-use Rattle.layout.proofs.Tables.{instruments-many}
+use Rattle.bank.proofs.Tables.{instruments-many}
 use Rattle.meaning.specs.declared.reading.Reading.{Reading}
 use Rattle.parser.specs.declared.sofar.Sofar.{Sofar}
 use Rattle.meaning.specs.Parts.{NamedPart, notesOf}

@@ -21,7 +21,8 @@ use Rattle.commands.specs.Commands.{linesHeld}
 use Rattle.tables.specs.Named.{macrosIn}
 use Rattle.part.specs.Columns.{loopsIn}
 use Rattle.layout.specs.Regions.{region}
-use Rattle.layout.specs.Layout.{notesAt, notesFrom, linesFrom}
+use Rattle.bank.specs.Bank.{linesFrom}
+use Rattle.layout.specs.Layout.{notesAt, notesFrom}
 use Rattle.parser.specs.declared.sofar.Sofar.{Sofar}
 use Rattle.meaning.specs.Parts.{NamedPart, Played}
 use Rattle.meaning.specs.Sheets.{Read, readOf}

@@ -9,7 +9,7 @@ ghost use Rattle.lines.specs.Lines.{linesOf, lineOf};
 ghost use Rattle.instrument.specs.Lines.{releaseOf};
 ghost use Rattle.operators.specs.OperatorLines.{operatorLines};
 ghost use Rattle.commands.specs.Commands.{linesHeld};
-ghost use Rattle.layout.specs.Layout.{linesFrom};
+ghost use Rattle.bank.specs.Bank.{linesFrom};
 ghost use Rattle.layout.specs.Regions.{region};
 ghost use Rattle.meaning.specs.Sheets.{plain, headerRead};
 ghost use Rattle.parser.specs.Columns.{tablesIn, sizeColumn, releaseColumn, readIn, Fits, Tabled, Begins, Goes, Blocked, Aside, Kept};

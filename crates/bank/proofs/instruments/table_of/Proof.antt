@@ -9,10 +9,10 @@ use borrow.Author.Needs.{needs}
 use Rattle.instrument.specs.declared.machine.Instrument.{Instrument}
 use Rattle.sheet.specs.Padding.{padded}
 use Rattle.commands.specs.Commands.{instrumentOf}
 use Rattle.layout.proofs.Fills.{filled-next}
-use Rattle.layout.proofs.Tables.{none-held, instruments-of, instruments-many, instruments-get}
-use Rattle.layout.proofs.instruments.table_of.Statement.{statement}
-use Rattle.layout.proofs.instruments.table_of.Tie as tie
+use Rattle.bank.proofs.Tables.{none-held, instruments-of, instruments-many, instruments-get}
+use Rattle.bank.proofs.instruments.table_of.Statement.{statement}
+use Rattle.bank.proofs.instruments.table_of.Tie as tie
 
 abbrev Inv-loop : tie.InvT-loop
 Inv-loop numbers shape sizes n most table₀ k₀ table k = (table ≡ padded 32 (instrumentOf []) (take k (instruments-of sizes numbers shape most))) × (k ≤ most)

@@ -3,8 +3,8 @@ use mathlib.Core.Path.{sym}
 use native.Mathlib.Omega.{arith}
 use lib.ListN.{List·getD-eq-default}
 use borrow.Author.Needs.{needs}
-use Rattle.layout.proofs.instruments.size_at.Statement.{statement}
-use Rattle.layout.proofs.instruments.size_at.Tie as tie
+use Rattle.bank.proofs.instruments.size_at.Statement.{statement}
+use Rattle.bank.proofs.instruments.size_at.Tie as tie
 
 mul-result : tie.Need-mul-result
 mul-result c = search needs

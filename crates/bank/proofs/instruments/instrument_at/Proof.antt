@@ -7,9 +7,9 @@ use lib.Ieee.{Float}
 use lib.Dec.{lit≤}
 use borrow.Author.Needs.{needs}
 use Rattle.commands.specs.Commands.{instrumentOf, linesHeld}
 use Rattle.layout.proofs.Cuts.{region-cut, begins-fit, cut-fits, cut-order, cut-within}
-use Rattle.layout.proofs.instruments.instrument_at.Statement.{statement}
-use Rattle.layout.proofs.instruments.instrument_at.Tie as tie
+use Rattle.bank.proofs.instruments.instrument_at.Statement.{statement}
+use Rattle.bank.proofs.instruments.instrument_at.Tie as tie
 
 -- the places of the regions of 32 instruments are small
 numbers-from : (k : ℕ) → k < 32 → 192 * k < 1048576

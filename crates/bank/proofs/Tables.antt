@@ -9,8 +9,8 @@ use lib.Ieee.{Float}
 use Rattle.instrument.specs.declared.machine.Instrument.{Instrument}
 use Rattle.blocks.specs.Blocks.{linesIn}
 use Rattle.commands.specs.Commands.{clipped, instrumentOf, linesHeld}
-use Rattle.layout.specs.Layout.{linesAt, linesFrom}
+use Rattle.bank.specs.Bank.{linesAt, linesFrom}
 use Rattle.layout.specs.Regions.{region}
 
 -- no line is asked for
 pub none-held : (fs : List Float) (ss : List ℕ) → linesHeld 0 fs ss ≡ []
