@@ -5,7 +5,6 @@ use crate::buffers;
 use crate::damage;
 use crate::request::Request;
 use engine::file::write_header;
-use engine::file::write_window;
 use evaluator::window::window;
 use fields::float::to_bits;
 use fields::word::put;
@@ -14,6 +13,7 @@ use lines::names::least;
 use parser::reader::read;
 use sheet::answer::Answer;
 use sheet::sheet::Sheet;
+use windows::window::write_window;
 
 // An answer as two numbers: the refusal, 0 for none, and the count.
 fn numbers(answer: Answer) -> [u8; 8] {

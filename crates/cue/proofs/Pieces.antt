@@ -19,7 +19,8 @@ use Rattle.handed.proofs.Passing.{passing}
 use Rattle.evaluator.specs.Samples.{samplesFrom}
 use Rattle.mixing.specs.Placing.{placed}
 use Rattle.engine.specs.Stream.{fileOf, nextOf, nextIn}
-use Rattle.engine.proofs.Files.{sample-bytes, written-count}
+use Rattle.windows.proofs.Windows.{sample-bytes}
+use Rattle.engine.proofs.Files.{written-count}
 use Rattle.engine.proofs.HandedOn.{file-passing, next-samples, next-header-there}
 use Rattle.cue.specs.Handing.{Next, Moved, Handed, none, more, written}
 use Rattle.cue.specs.declared.output.Output.{Output}

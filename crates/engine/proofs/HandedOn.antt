@@ -21,10 +21,13 @@ use Rattle.handed.proofs.Passing.{passing}
 use Rattle.evaluator.specs.Samples.{samplesFrom}
 use Rattle.mixing.specs.Placing.{placed}
 use Rattle.evaluator.proofs.Samples.{samples-append}
-use Rattle.engine.specs.Files.{headerOf, headerIn, writtenOf, writtenIn}
+use Rattle.windows.specs.Written.{writtenOf, writtenIn}
+use Rattle.engine.specs.Files.{headerOf, headerIn}
 use Rattle.engine.specs.Stream.{fileOf, countIn, isSampleAt, samplesNext, nextOf, nextIn}
-use Rattle.engine.proofs.Answers.{header-28, header-30, header-taken, header-refused, header-written, written-28, written-refused}
-use Rattle.engine.proofs.Files.{sample-bytes, fitting, written-is, written-count}
+use Rattle.windows.proofs.Answers.{written-28, written-refused}
+use Rattle.engine.proofs.Answers.{header-28, header-30, header-taken, header-refused, header-written}
+use Rattle.windows.proofs.Windows.{sample-bytes, fitting, written-is}
+use Rattle.engine.proofs.Files.{written-count}
 
 -- samples that exist are inside the sheet, and past its end none do
 inside : (room samples i m : ℕ) → m ≡ min room (samples - i) → i ≤ samples → i + m ≤ samples

@@ -14,7 +14,8 @@ use Rattle.sheet.specs.Refusals.{Outcome, going, refused}
 use Rattle.handed.specs.Check.{isSheet}
 use Rattle.evaluator.specs.Samples.{samplesFrom}
 use Rattle.mixing.specs.Placing.{placed}
-use Rattle.engine.specs.Files.{headerOf, writtenOf}
+use Rattle.windows.specs.Written.{writtenOf}
+use Rattle.engine.specs.Files.{headerOf}
 
 -- the bytes of a sheet's file; a sheet that does not pass the check has none
 unfoldable pub fileOf : ℕ → Sheet → List ℕ

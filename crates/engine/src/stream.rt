@@ -5,9 +5,9 @@ ghost use lib.ListN.{length};
 ghost use Rattle.sheet.specs.Answers.{answered};
 ghost use Rattle.engine.specs.Stream.{countIn, nextOf, nextIn};
 use crate::file::write_header;
-use crate::file::write_window;
 use sheet::answer::Answer;
 use sheet::sheet::Sheet;
+use windows::window::write_window;
 
 // How many an answer says there are: none where it is a refusal.
 fn count_of(answer: Answer) -> usize

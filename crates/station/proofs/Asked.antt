@@ -17,7 +17,8 @@ use Rattle.handed.proofs.Passing.{passing}
 use Rattle.evaluator.specs.Samples.{samplesFrom}
 use Rattle.mixing.specs.Placing.{placed}
 use Rattle.evaluator.proofs.Samples.{samples-length}
-use Rattle.engine.specs.Files.{headerOf, headedBy, headerIn, writtenOf, writtenBy, writtenIn}
+use Rattle.windows.specs.Written.{writtenOf, writtenBy, writtenIn}
+use Rattle.engine.specs.Files.{headerOf, headedBy, headerIn}
 use Rattle.engine.proofs.Files.{whole-file}
 use Rattle.station.specs.declared.told.Told.{Told}
 use Rattle.station.specs.Calls.{told, written, rate, sheetIn, samplesAsked, headerAsked, headerBytes, headerWritten, windowAsked, sampleBytes, windowWritten, sizeAsked, wavAsked, wavTold, wavWritten}

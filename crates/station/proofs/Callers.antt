@@ -14,7 +14,7 @@ use Rattle.sheet.specs.Refusals.{Outcome, going, refused, _>>=_, _>>_}
 use Rattle.sheet.proofs.Outcomes.{Numbered, numbered-going, numbered-unless, numbered-then}
 use Rattle.engine.specs.Stream.{fileOf}
 use Rattle.engine.proofs.Answers.{header-taken, header-written as header-put}
-use Rattle.engine.proofs.Files.{written-is, written-cut, both-put}
+use Rattle.windows.proofs.Windows.{written-is, written-cut, both-put}
 use Rattle.engine.proofs.HandedOn.{file-passing}
 use Rattle.meaning.specs.Sheets.{Read, sheetRead, lengthRead}
 use Rattle.meaning.specs.Layout.{sheetOf}

@@ -6,7 +6,8 @@ use Rattle.sheet.specs.declared.sheet.Sheet.{Sheet}
 use Rattle.sheet.specs.Refusals.{Outcome, going, refused, _>>=_, _>>_, refuse_on_unless_}
 use Rattle.sheet.proofs.Outcomes.{then-going, then-refused}
 use Rattle.handed.specs.Check.{isSheet}
-use Rattle.engine.specs.Files.{headerOf, writtenOf}
+use Rattle.windows.specs.Written.{writtenOf}
+use Rattle.engine.specs.Files.{headerOf}
 use Rattle.station.specs.Calls.{rate, sheetIn, headerAsked, windowAsked}
 use Rattle.station.proofs.Texts.{sheet-passes}
 use Rattle.station.proofs.Asked.{header-refused, header-going, window-refused, window-going}

@@ -6,10 +6,10 @@ ghost use Rattle.sheet.specs.Answers.{answered};
 ghost use Rattle.sheet.specs.Refusals.{going, refused};
 ghost use Rattle.station.specs.Calls.{told, samplesAsked, headerAsked, headerWritten, windowAsked, windowWritten, wavTold, wavWritten};
 use engine::file::write_header;
-use engine::file::write_window;
 use handed::check::check;
 use parser::reader::read;
 use sheet::answer::Answer;
+use windows::window::write_window;
 
 // What a caller is told: how many, a refusal's number, 0 for none, and its line.
 pub struct Told {

@@ -9,7 +9,7 @@ use Rattle.sheet.specs.Parts.{lengthOf}
 use Rattle.sheet.specs.Refusals.{going}
 use Rattle.handed.proofs.Answers.{checked-length}
 use Rattle.handed.proofs.Passing.{passing}
-use Rattle.engine.specs.Files.{writtenIn}
+use Rattle.windows.specs.Written.{writtenIn}
 use Rattle.station.specs.Calls.{told, sheetIn}
 use Rattle.station.proofs.Texts.{text-refused, text-going, sheet-passes}
 use Rattle.station.proofs.Asked.{wav-told-refused, wav-kept, wav-told-short, wav-short-kept, wav-told-room, wav-pieces}

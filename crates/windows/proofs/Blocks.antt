@@ -18,7 +18,7 @@ use Rattle.mixing.specs.Placing.{placed}
 use Rattle.mixing.specs.Mixing.{mixAll}
 use Rattle.evaluator.proofs.Samples.{samples-length}
 use Rattle.evaluator.proofs.Rendered.{Fitting, mixed-is}
-use Rattle.engine.proofs.Files.{blocks-more, blocks-length}
+use Rattle.windows.proofs.Windows.{blocks-more, blocks-length}
 
 -- so many samples are written: from `start` on, as bytes from place `at` on
 pub record Wrote (rate : ℕ) (s : Sheet) (start at : ℕ) (before : List ℕ) (done : ℕ) (now : List ℕ) : Type 0 where

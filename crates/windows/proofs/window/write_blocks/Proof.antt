@@ -19,10 +19,10 @@ use Rattle.mixing.specs.Placing.{placed}
 use Rattle.mixing.proofs.Walk.{mix-all-length}
 use Rattle.evaluator.proofs.Owned.{each-tells}
 use Rattle.evaluator.proofs.Rendered.{Fitting}
-use Rattle.engine.proofs.Files.{blocks-none}
-use Rattle.engine.proofs.Blocks.{Wrote, wrote-more, wrote-length, front-kept}
-use Rattle.engine.proofs.file.write_blocks.Statement.{statement}
-use Rattle.engine.proofs.file.write_blocks.Tie as tie
+use Rattle.windows.proofs.Windows.{blocks-none}
+use Rattle.windows.proofs.Blocks.{Wrote, wrote-more, wrote-length, front-kept}
+use Rattle.windows.proofs.window.write_blocks.Statement.{statement}
+use Rattle.windows.proofs.window.write_blocks.Tie as tie
 
 abbrev Inv-loop : tie.InvT-loop
 Inv-loop sheet buffer₀ at rate start n block₀ none done₀ buffer block done =

@@ -13,10 +13,10 @@ use Rattle.sheet.specs.Answers.{answered}
 use Rattle.handed.specs.Check.{isSheet}
 use Rattle.handed.proofs.Answers.{checked-passes, checked-length}
 use Rattle.mixing.specs.Placing.{placed}
-use Rattle.engine.proofs.Answers.{written-28, written-29, written-past, written-short, written-room, written-none, written-refused, written-put}
-use Rattle.engine.proofs.Files.{blocks-none}
-use Rattle.engine.proofs.file.write_window.Statement.{statement}
-use Rattle.engine.proofs.file.write_window.Tie as tie
+use Rattle.windows.proofs.Answers.{written-28, written-29, written-past, written-short, written-room, written-none, written-refused, written-put}
+use Rattle.windows.proofs.Windows.{blocks-none}
+use Rattle.windows.proofs.window.write_window.Statement.{statement}
+use Rattle.windows.proofs.window.write_window.Tie as tie
 
 -- where none of some samples fits, under two bytes are left
 short : (room samples start n : ℕ) → n ≡ min (room / 2) (samples - start) → n ≡ 0 → start < samples → room < 2

@@ -1,0 +1,3 @@
+// Windows of a sheet's samples as the bytes of its WAV file.
+
+pub mod window;
