@@ -1,5 +1,5 @@
 -- The starred sheets of document 01 in one table, proved by one statement: the definition of reading, computed on each, gives the answer beside it.
--- Sheet 9 is about samples and stands in `wave`. Assumes nothing.
+-- Sheet 9 is about samples and stands in `form`. Assumes nothing.
 use mathlib.Core.Path.{_≡_, refl}
 use mathlib.Core.List.{List, [], _∷_, map}
 use Prim.Native.Nat.{ℕ}
