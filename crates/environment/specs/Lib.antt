@@ -1,4 +1,3 @@
 pub mod Bounds
-pub mod Changes
 pub mod Environment
 pub mod Ranges

@@ -1,6 +1,5 @@
 // What a part carries along while its lines are read: octave, note value, tempo, amplitude, denominator,
 // key and instrument.
 
-pub mod command;
 pub mod environment;
 pub mod range;

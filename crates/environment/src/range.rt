@@ -40,7 +40,7 @@ pub fn ranged_value(n: Int, least: u32, most: u32) -> RangedValue
 }
 
 // The amplitude of a decimal: 7 where there is none, 19 where it is too long, 8 where it lies outside 0 to 1.
-pub(crate) fn ranged_amplitude(d: Decimal) -> RangedAmplitude
+pub fn ranged_amplitude(d: Decimal) -> RangedAmplitude
     ensures { λ r. ⌜ ((line : ℕ) → amplitudeOutcome line r ≡ loudness line (amountOf d)) ⌝ }
 {
     match d {

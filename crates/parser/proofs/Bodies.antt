@@ -14,7 +14,7 @@ use Rattle.sheet.proofs.Outcomes.{Numbered, numbered-going, numbered-refused, n
 use Rattle.environment.specs.declared.environment.Environment.{Environment}
 use Rattle.keys.specs.declared.key.Key.{Key}
 use Rattle.environment.specs.Ranges.{Amount, amount, unreadable, tooLong, readable, loudness}
-use Rattle.environment.specs.Changes.{octaveRead, valueRead, tempoRead, amplitudeRead, keyRead}
+use Rattle.settings.specs.Changes.{octaveRead, valueRead, tempoRead, amplitudeRead, keyRead}
 use Rattle.items.specs.Items.{Item, note, up, down, opening, cut, closing, octave, value, tempo, amplitude, key, instrument, call, unknown, itemsOf}
 use Rattle.parser.proofs.Numbers.{numbered-without, ranged-numbered}
 use Rattle.tables.specs.Named.{Macro}

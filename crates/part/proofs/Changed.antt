@@ -10,9 +10,9 @@ use lib.Ieee.{Float}
 use Rattle.lines.specs.Names.{placeAmong}
 use Rattle.sheet.specs.Refusals.{Outcome, going, refused, _>>=_, refuse_on_without_}
 use Rattle.environment.specs.declared.environment.Environment.{Environment}
-use Rattle.environment.specs.declared.command.Changed.{Changed}
-use Rattle.environment.specs.declared.command.Changed.the-variants.{To, Refused}
-use Rattle.environment.specs.Changes.{changeOutcome, Low}
+use Rattle.settings.specs.declared.command.Changed.{Changed}
+use Rattle.settings.specs.declared.command.Changed.the-variants.{To, Refused}
+use Rattle.settings.specs.Changes.{changeOutcome, Low}
 use Rattle.environment.specs.Environment.{withInstrument}
 use Rattle.items.specs.Items.{instrument}
 use Rattle.tables.proofs.Named.{place-found, place-none}

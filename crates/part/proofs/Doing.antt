@@ -14,11 +14,11 @@ use Rattle.sheet.proofs.Basics.{false-true}
 use Rattle.sheet.specs.Refusals.{Outcome, going, _>>=_}
 use Rattle.keys.specs.declared.key.Accidental.{Accidental}
 use Rattle.environment.specs.declared.environment.Environment.{Environment}
-use Rattle.environment.specs.declared.command.Changed.{Changed}
-use Rattle.environment.specs.declared.command.Changed.the-variants.{To}
+use Rattle.settings.specs.declared.command.Changed.{Changed}
+use Rattle.settings.specs.declared.command.Changed.the-variants.{To}
 use Rattle.keys.specs.declared.key.Key.{Key}
 use Rattle.keys.specs.declared.key.KeyAt.{KeyAt}
-use Rattle.environment.specs.Changes.{Low, changeOutcome, octaveRead, valueRead, tempoRead, amplitudeRead, keyRead}
+use Rattle.settings.specs.Changes.{Low, changeOutcome, octaveRead, valueRead, tempoRead, amplitudeRead, keyRead}
 use Rattle.environment.specs.Environment.{octaveUp, octaveDown}
 use Rattle.keys.specs.Keys.{accidentalFound, keyFound}
 use Rattle.environment.specs.Ranges.{Amount, digitRun, amountOf}

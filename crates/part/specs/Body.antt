@@ -13,7 +13,7 @@ use Rattle.sheet.specs.declared.note.Note.{Note}
 use Rattle.environment.specs.declared.environment.Environment.{Environment}
 use Rattle.keys.specs.declared.key.Accidental.{Accidental}
 use Rattle.environment.specs.Bounds.{values, within}
-use Rattle.environment.specs.Changes.{octaveRead, valueRead, tempoRead, amplitudeRead, keyRead}
+use Rattle.settings.specs.Changes.{octaveRead, valueRead, tempoRead, amplitudeRead, keyRead}
 use Rattle.environment.specs.Environment.{withInstrument, octaveUp, octaveDown}
 use Rattle.items.specs.Items.{Item, note, up, down, opening, cut, closing, octave, value, tempo, amplitude, key, instrument, call, unknown, itemsOf}
 use Rattle.loops.specs.Loops.{Loop, played, playedCount, innermost, counted}

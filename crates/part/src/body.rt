@@ -21,13 +21,18 @@ use crate::open_loops::closed;
 use crate::open_loops::cut_here;
 use crate::open_loops::opened;
 use crate::state::State;
-use environment::command::Changed;
 use items::item::Found;
 use items::item::Item;
 use items::item::is_call;
 use items::item::item_at;
 use lines::names::least;
 use lines::names::place_named;
+use settings::command::Changed;
+use settings::command::amplitude_command;
+use settings::command::key_command;
+use settings::command::octave_command;
+use settings::command::tempo_command;
+use settings::command::value_command;
 use text::blanks::blanks_end;
 
 // What an item does that is no macro call.
@@ -65,11 +70,11 @@ fn done(
         Item::Opening => opened(loops, st, line),
         Item::Cut => cut_here(loops, st, line),
         Item::Closing(n) => closed(floats, instruments, loops, st, line, n),
-        Item::Octave(n) => change(st, line, env.octave_command(n)),
-        Item::Value(n) => change(st, line, env.value_command(n)),
-        Item::Tempo(n) => change(st, line, env.tempo_command(n)),
-        Item::Amplitude(d) => change(st, line, env.amplitude_command(d)),
-        Item::Key(k) => change(st, line, env.key_command(k)),
+        Item::Octave(n) => change(st, line, octave_command(env, n)),
+        Item::Value(n) => change(st, line, value_command(env, n)),
+        Item::Tempo(n) => change(st, line, tempo_command(env, n)),
+        Item::Amplitude(d) => change(st, line, amplitude_command(env, d)),
+        Item::Key(k) => change(st, line, key_command(env, k)),
         Item::Instrument => {
             let name = &text[at..next];
             instrument(source, names, st, line, name)

@@ -5,14 +5,14 @@ ghost use Prim.Native.Nat.{ℕ};
 ghost use lib.Ieee.{Float};
 ghost use Rattle.lines.specs.Names.{namesIn};
 ghost use Rattle.sheet.specs.Refusals.{Outcome};
-ghost use Rattle.environment.specs.Changes.{changeOutcome, Low};
+ghost use Rattle.settings.specs.Changes.{changeOutcome, Low};
 ghost use Rattle.items.specs.Items as Items;
 ghost use Rattle.tables.specs.Named.{Macro};
 ghost use Rattle.part.specs.Body.{Progress, does, changing};
 ghost use Rattle.part.specs.Columns.{Ready, Becomes, progressOf, bookOf};
 use crate::state::State;
-use environment::command::Changed;
 use lines::names::place_named;
+use settings::command::Changed;
 
 // The environment that a command came to, in place of the part's, or its refusal.
 pub(crate) fn change(st: State, line: usize, changed: Changed) -> State

@@ -1,8 +1,8 @@
 -- `done` is what its callee does, for the item that each arm knows. Assumes nothing.
 use mathlib.Core.Path.{sym, ap, _∙_}
 use Rattle.sheet.proofs.Basics.{false-true}
-use Rattle.environment.specs.declared.command.Changed.the-variants.{To}
-use Rattle.environment.proofs.Changing.{octave-low, value-low, tempo-low, amplitude-low, key-low}
+use Rattle.settings.specs.declared.command.Changed.the-variants.{To}
+use Rattle.settings.proofs.Changing.{octave-low, value-low, tempo-low, amplitude-low, key-low}
 use Rattle.items.specs.Written.{isCall}
 use Rattle.part.proofs.Doing.{written-note, written-up, written-down, written-opening, written-cut, written-closing, written-octave, written-value, written-tempo, written-amplitude, written-key, written-instrument, written-unknown, low-up, low-down, low-as, done-as, does-note, does-opening, does-cut, does-closing, does-up, does-down, does-octave, does-value, does-tempo, does-amplitude, does-key, does-unknown}
 use borrow.Author.Needs.{needs}

@@ -1,8 +1,8 @@
 -- `amplitude_command` is what `ranged_amplitude` answers, put into the environment. Assumes nothing.
 use borrow.Author.Needs.{needs}
-use Rattle.environment.proofs.Changing.{amplitude-to, amplitude-refused}
-use Rattle.environment.proofs.environment.Environment.amplitude_command.Statement.{statement}
-use Rattle.environment.proofs.environment.Environment.amplitude_command.Tie as tie
+use Rattle.settings.proofs.Changing.{amplitude-to, amplitude-refused}
+use Rattle.settings.proofs.command.amplitude_command.Statement.{statement}
+use Rattle.settings.proofs.command.amplitude_command.Tie as tie
 
 ranged-amplitude-requires : tie.Need-ranged-amplitude-requires
 ranged-amplitude-requires c κs = search needs

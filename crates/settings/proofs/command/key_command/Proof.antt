@@ -1,8 +1,8 @@
 -- `key_command` is the key that was found, put into the environment. Assumes nothing.
 use borrow.Author.Needs.{needs}
-use Rattle.environment.proofs.Changing.{key-to, key-refused}
-use Rattle.environment.proofs.environment.Environment.key_command.Statement.{statement}
-use Rattle.environment.proofs.environment.Environment.key_command.Tie as tie
+use Rattle.settings.proofs.Changing.{key-to, key-refused}
+use Rattle.settings.proofs.command.key_command.Statement.{statement}
+use Rattle.settings.proofs.command.key_command.Tie as tie
 
 enum-known-k : tie.Need-enum-known-k
 enum-known-k c = search needs

@@ -3,13 +3,13 @@
 use mathlib.Core.Option.{Option}
 use Prim.Native.Nat.{ℕ, _≤_, _<_}
 use Rattle.sheet.specs.Refusals.{Outcome, going, refused, _>>=_, refuse_on_without_}
 use Rattle.environment.specs.declared.environment.Environment.{Environment}
-use Rattle.environment.specs.declared.command.Changed.{Changed}
-use Rattle.environment.specs.declared.command.Changed.the-variants.{To, Refused}
+use Rattle.settings.specs.declared.command.Changed.{Changed}
+use Rattle.settings.specs.declared.command.Changed.the-variants.{To, Refused}
 use Rattle.keys.specs.declared.key.Key.{Key}
 use Rattle.environment.specs.Bounds.{octaves, values, tempos}
 use Rattle.environment.specs.Environment.{withOctave, withValue, withTempo, withAmplitude, withKey}
 use Rattle.environment.specs.Ranges.{Amount, ranged, loudness}
 
 module _ (line : ℕ) where
   unfoldable pub octaveRead : Option ℕ → Environment → Outcome Environment

@@ -10,20 +10,20 @@ use borrow.Author.Tests.{leb-true}
 use Rattle.ieee.specs.Constants.{plusZero, one}
 use Rattle.sheet.proofs.Basics.{both}
 use Rattle.sheet.specs.Refusals.{Outcome, going, _>>=_, _>>_, refuse_on_unless_, refuse_on_if_, refuse_on_without_}
 use Rattle.environment.specs.declared.environment.Environment.{Environment}
-use Rattle.environment.specs.declared.command.Changed.the-variants.{To, Refused}
+use Rattle.settings.specs.declared.command.Changed.the-variants.{To, Refused}
 use Rattle.keys.specs.declared.key.Key.{Key}
 use Rattle.keys.specs.declared.key.KeyAt.{KeyAt}
 use Rattle.keys.specs.declared.key.KeyAt.the-variants.{Found, Absent}
 use Rattle.environment.specs.declared.range.RangedValue.{RangedValue}
 use Rattle.environment.specs.declared.range.RangedValue.the-variants as RangedValue
 use Rattle.environment.specs.declared.range.RangedAmplitude.{RangedAmplitude}
 use Rattle.environment.specs.declared.range.RangedAmplitude.the-variants as RangedAmplitude
 use Rattle.environment.specs.Bounds.{Bounds, octaves, values, tempos, within}
-use Rattle.environment.specs.Changes.{Low, changeOutcome, octaveRead, valueRead, tempoRead, amplitudeRead, keyRead}
+use Rattle.settings.specs.Changes.{Low, changeOutcome, octaveRead, valueRead, tempoRead, amplitudeRead, keyRead}
 use Rattle.environment.specs.Environment.{withAmplitude, withKey}
 use Rattle.keys.specs.Keys.{keyFound}
 use Rattle.environment.specs.Ranges.{Amount, amount, unreadable, tooLong, readable, ranged, loudness, valueOutcome, amplitudeOutcome}
 
 -- ---- answers
 
