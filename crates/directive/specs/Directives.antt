@@ -1,8 +1,9 @@
 -- Directives, as document 01 has them: "A directive changes the starting environment and every existing part's." Here is how a directive's two tokens
 -- say what is changed; `applied` carries the change out. Assumes nothing.
-use mathlib.Core.List.{List, [], _∷_}
+use mathlib.Core.List.{List, [], _∷_, map, _++_}
 use Prim.Native.Nat.{ℕ}
 use Prim.Native.String.{String}
+use lib.ListN.{take, drop}
 use Rattle.text.specs.Characters.{rowNamed}
 use Rattle.lines.specs.Tokens.{namedOf, firstToken}
 use Rattle.number.specs.Digits.{valueMost, intAt}
@@ -64,3 +65,8 @@ applied (Tempo v) e = withTempo v e
 applied (Denominator v) e = withDenominator v e
 applied (OfKey k) e = withKey k e
 applied (Refused n) e = e
+
+-- the same on the first n environments: "A directive changes .. every existing part's"
+unfoldable pub appliedTo : Directive → ℕ → List Environment → List Environment
+unfolding applied
+appliedTo d n es = map (applied d) (take n es) ++ drop n es

@@ -3,13 +3,14 @@
 ghost use mathlib.Core.Path.{_≡_};
 ghost use Prim.Native.Nat.{ℕ};
 ghost use Rattle.text.specs.Quoted.{bytes};
-ghost use Rattle.directive.specs.Directives.{changeOf, directiveOf, directiveOutcome, applied};
+ghost use Rattle.directive.specs.Directives.{changeOf, directiveOf, directiveOutcome, applied, appliedTo};
 use environment::environment::Environment;
 use environment::range::RangedValue;
 use environment::range::ranged_value;
 use keys::key::Key;
 use keys::key::KeyAt;
 use keys::key::key_at;
+use lines::names::least;
 use lines::names::name_at;
 use number::digits::eat_int;
 use text::blanks::blanks_end;
@@ -127,4 +128,18 @@ pub fn apply(d: Directive, env: Environment) -> Environment
             return next;
         }
     }
+}
+
+// The environments of parts with a directive carried out on each of the first n, at most 16 of them.
+pub fn apply_to_parts(d: Directive, envs: [Environment; 16], n: usize) -> [Environment; 16]
+    ensures { λ r. ⌜ r ≡ appliedTo d n envs ⌝ }
+{
+    let most = least(n, 16);
+    let mut own = envs;
+    let mut i = 0;
+    while i < most {
+        own[i] = apply(d, own[i]);
+        i += 1;
+    }
+    own
 }
