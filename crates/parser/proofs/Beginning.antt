@@ -26,7 +26,8 @@ use Rattle.parser.specs.declared.sofar.Sofar.{Sofar}
 use Rattle.meaning.specs.Sheets.{Read, plain, nothingRead, linesRead}
 use Rattle.parser.specs.Columns.{sizeColumn, releaseColumn, placeColumn, tablesIn, partsFrom, readIn, Fits, Tabled, Blocked, Kept, nothingSofar}
 use Rattle.parser.proofs.Headers.{block-going, block-refused}
-use Rattle.parser.proofs.Walking.{Walking, walking-start}
+use Rattle.parser.specs.Walks.{Walking}
+use Rattle.parser.proofs.Walking.{walking-start}
 use Rattle.parser.proofs.ReadLines.{held-whole}
 use Rattle.tables.proofs.Entries.{same-given}
 

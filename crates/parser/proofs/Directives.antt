@@ -12,7 +12,8 @@ use Rattle.sheet.proofs.Outcomes.{Numbered, then-going, then-refused}
 use Rattle.environment.specs.declared.environment.Environment.{Environment}
 use Rattle.environment.specs.Environment.{atTheStart}
 use Rattle.directive.specs.declared.directive.Directive.{Directive}
-use Rattle.directive.specs.Directives.{directiveOf, directiveOutcome, applied}
+use Rattle.directive.specs.Directives.{directiveOf, directiveOutcome, applied, appliedTo}
+use Rattle.directive.proofs.Parts.{applied-length, applied-at}
 use Rattle.tables.specs.Tables.{numberOf}
 use Rattle.parser.specs.declared.sofar.Sofar.{Sofar}
 use Rattle.meaning.specs.Parts.{NamedPart, everyPart}
@@ -58,9 +59,15 @@ module _ (s places : List ℕ) (r : Sofar) (fs : List Float) (is ls : List ℕ) 
         goes-refused s places r fs is ls t _ 1 n (r .line) z
         (then-refused n (r .line) (directiveOf (r .line) text) _ (says ∙ directive-refused d (r .line) n (number (r .line)) z))
 
-    module _ (z : n ≡ 0) (es : List Environment) (long : length es ≡ length (r .envs)) (each : (j : ℕ) → j < r .parts → getD es j atTheStart ≡ applied d (getD (r .envs) j atTheStart)) where
+    module _ (z : n ≡ 0) where
+      abbrev es : List Environment
+      es = appliedTo d (r .parts) (r .envs)
+
       abbrev after : Sofar
       after = passedTo (withEnvs r (applied d (r .start)) es) (r .macros) (r .instruments) (r .line + 1) next
+
+      each : Fits places r fs is ls → (j : ℕ) → j < r .parts → getD es j atTheStart ≡ applied d (getD (r .envs) j atTheStart)
+      each w j h = applied-at d (r .parts) (r .envs) j atTheStart h (omega (arith, h, w .few, w .envs-length))
 
       numbered : Numbered (directiveOutcome (r .line) d)
       numbered = subst Numbered says (directive-numbered (r .line) text)
@@ -72,12 +79,12 @@ module _ (s places : List ℕ) (r : Sofar) (fs : List Float) (is ls : List ℕ) 
           (record {
             few = w .few;
             start = omega (arith, applied-octave d (r .start), w .start);
-            octaves = λ k h. omega (arith, ap (λ (e : Environment). e .octave) (each k h), applied-octave d (getD (r .envs) k atTheStart), w .octaves k h);
+            octaves = λ k h. omega (arith, ap (λ (e : Environment). e .octave) (each w k h), applied-octave d (getD (r .envs) k atTheStart), w .octaves k h);
             counts = w .counts;
             depths = w .depths;
             all = w .all;
             notes = w .notes;
-            envs-length = long ∙ w .envs-length;
+            envs-length = applied-length d (r .parts) (r .envs) ∙ w .envs-length;
             counts-length = w .counts-length;
             depths-length = w .depths-length;
             places-length = w .places-length;
@@ -89,4 +96,4 @@ module _ (s places : List ℕ) (r : Sofar) (fs : List Float) (is ls : List ℕ) 
           (then-going (applied d) (directiveOf (r .line) text) _ (says ∙ directive-going d (r .line) n (number (r .line)) z numbered)
           ∙ ap
           (λ (ps : List NamedPart). going (readOf (applied d (r .start)) ps (before .macros) (before .names) (before .instruments) (before .steps)))
-          (parts-changed s places r fs is ls (applied d) (applied d (r .start)) es (r .line + 1) next (r .parts) 0 (λ j h. each j (omega (arith, h)))))
+          (parts-changed s places r fs is ls (applied d) (applied d (r .start)) es (r .line + 1) next (r .parts) 0 (λ j h. each w j (omega (arith, h)))))

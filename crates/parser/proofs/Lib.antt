@@ -3,7 +3,6 @@ pub mod Beginning
 pub mod Blocks
 pub mod Bodies
 pub mod Bytes
-pub mod Changing
 pub mod Closings
 pub mod Directives
 pub mod Going
@@ -15,7 +14,9 @@ pub mod Numbers
 pub mod PartLines
 pub mod PartPlaces
 pub mod PartReads
+pub mod PartWalk
 pub mod PartWays
+pub mod Parting
 pub mod Pieces
 pub mod Playing
 pub mod ReadLines

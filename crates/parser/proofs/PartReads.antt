@@ -49,17 +49,17 @@ pub first-places : (s name ls : List ℕ) (n k : ℕ) → n ≤ 16 → k ≡ pla
 first-places s name ls n k h e = e ∙ ap (λ (ps : List ℕ). placeAmong name (namesIn s ps)) (region-front 32 8 ls 256 (2 * n) refl (omega (arith, h)))
 
 -- a body that is read with what is lent of the columns
-module _ (rate : ℕ) (s bs : List ℕ) (xs : List Float) (ss : List ℕ) (r : Sofar) (most : r .macros ≤ 64) (few : r .instruments + 1 ≤ 32) (line : ℕ) (text : List ℕ) (k : ℕ) (st q : State) (fs : List Float) (is ls : List ℕ) (gs : List Float) (js ns : List ℕ) where
+module _ (rate : ℕ) (s bs : List ℕ) (xs : List Float) (ss : List ℕ) (macros instruments : ℕ) (most : macros ≤ 64) (few : instruments + 1 ≤ 32) (line : ℕ) (text : List ℕ) (k : ℕ) (st q : State) (fs : List Float) (is ls : List ℕ) (gs : List Float) (js ns : List ℕ) where
   abbrev ReadBy : List ℕ → List ℕ → List Float → Type 0
-  ReadBy macros names releases =
-      BodyCame (bodyAt (bookIn rate s macros (take (2 * r .macros) bs) names releases) line text k st fs is ls) k st q fs is ls gs js ns
+  ReadBy ms names releases =
+      BodyCame (bodyAt (bookIn rate s ms (take (2 * macros) bs) names releases) line text k st fs is ls) k st q fs is ls gs js ns
 
-  pub body-as : ReadBy (take (2048 + 2 * r .macros - 2048) (drop 2048 ss)) (take (2176 + 2 * r .instruments - 2176) (drop 2176 ss)) (take (6144 + (r .instruments + 1) - 6144) (drop 6144 xs))
-      → ReadBy (take (2 * r .macros) (macroColumn ss)) (take (2 * r .instruments) (nameColumn ss)) (take (r .instruments + 1) (releaseColumn xs))
+  pub body-as : ReadBy (take (2048 + 2 * macros - 2048) (drop 2048 ss)) (take (2176 + 2 * instruments - 2176) (drop 2176 ss)) (take (6144 + (instruments + 1) - 6144) (drop 6144 xs))
+      → ReadBy (take (2 * macros) (macroColumn ss)) (take (2 * instruments) (nameColumn ss)) (take (instruments + 1) (releaseColumn xs))
   body-as h =
-      subst (λ (v : List Float). ReadBy (take (2 * r .macros) (macroColumn ss)) (take (2 * r .instruments) (nameColumn ss)) v) (region-front 32 192 xs 6144 (r .instruments + 1) refl (omega (arith, few)))
-      (subst (λ (v : List ℕ). ReadBy (take (2 * r .macros) (macroColumn ss)) v (take (6144 + (r .instruments + 1) - 6144) (drop 6144 xs))) (region-front 64 34 ss 2176 (2 * r .instruments) refl (omega (arith, few)))
-      (subst (λ (v : List ℕ). ReadBy v (take (2176 + 2 * r .instruments - 2176) (drop 2176 ss)) (take (6144 + (r .instruments + 1) - 6144) (drop 6144 xs))) (region-front 128 16 ss 2048 (2 * r .macros) refl (omega (arith, most))) h))
+      subst (λ (v : List Float). ReadBy (take (2 * macros) (macroColumn ss)) (take (2 * instruments) (nameColumn ss)) v) (region-front 32 192 xs 6144 (instruments + 1) refl (omega (arith, few)))
+      (subst (λ (v : List ℕ). ReadBy (take (2 * macros) (macroColumn ss)) v (take (6144 + (instruments + 1) - 6144) (drop 6144 xs))) (region-front 64 34 ss 2176 (2 * instruments) refl (omega (arith, few)))
+      (subst (λ (v : List ℕ). ReadBy v (take (2176 + 2 * instruments - 2176) (drop 2176 ss)) (take (6144 + (instruments + 1) - 6144) (drop 6144 xs))) (region-front 128 16 ss 2048 (2 * macros) refl (omega (arith, most))) h))
 
 -- ---- the line
 

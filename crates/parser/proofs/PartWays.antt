@@ -27,7 +27,7 @@ module _ (rate : ℕ) (s bs : List ℕ) (xs : List Float) (ss : List ℕ) (r : S
   abbrev book : Book
   book = bookIn rate s (take (2 * r .macros) (macroColumn ss)) (take (2 * r .macros) bs) (take (2 * r .instruments) (nameColumn ss)) (take (r .instruments + 1) (releaseColumn xs))
 
-  abbrev Gone : List ℕ → Sofar → List Float → List ℕ → List ℕ → Type 0
+  abbrev pub Gone : List ℕ → Sofar → List Float → List ℕ → List ℕ → Type 0
   Gone places q fs′ is′ ls′ =
       Goes (partRead rate (r .line) (namedOf (lineOf (drop (r .at) s))) (readIn s (placeColumn ls) r fs is ls (tablesIn bs xs ss))) 1 s places r q fs′ is′ ls′ (tablesIn bs xs ss)
 

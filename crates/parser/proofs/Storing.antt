@@ -16,7 +16,7 @@ use Rattle.part.specs.Body.{Book}
 use Rattle.tables.specs.Tables.{withEntry}
 use Rattle.parser.specs.declared.sofar.Sofar.{Sofar}
 use Rattle.parser.specs.Columns.{placeColumn, Fits, refusedAt, passedTo}
-use Rattle.parser.specs.PartSteps.{stateOf, keptWith, storedAs, withNew, withPart, NamedAt, Passed, BodyCame, bodyAt, LinePassed}
+use Rattle.parser.specs.PartSteps.{stateOf, stateFrom, keptWith, storedAs, withNew, withPart, NamedAt, Passed, BodyCame, bodyAt, LinePassed}
 use Rattle.parser.proofs.Pieces.{region-before, region-set}
 use Rattle.parser.proofs.Playing.{own-few, stored-kept, stored-refused, state-is, line-whole}
 
@@ -55,6 +55,22 @@ state-new r k h m few le lc ld =
       getD-set-same (r .depths) (r .parts) 0 0 (omega (arith, few, e, ld)),
     )
     (ap (λ (n : ℕ). record { env = r .start; count = 0; others = n; depth = 0; steps = r .steps; refusal = 0; line = 0 }) (let z : r .all - 0 ≡ r .all = omega arith in z)))
+
+-- from what it has
+module _ (k n : ℕ) (env : Environment) (count depth : ℕ) (start : Environment) (all steps : ℕ) where
+  pub from-known : k < n
+      → _≡_ {A = State}
+      (record { env = env; count = count; others = all - count; depth = depth; steps = steps; refusal = 0; line = 0 })
+      (stateFrom k n env count depth start all steps)
+  unfolding stateFrom
+  from-known h = rw (lt-ltb k n h, stateFrom) refl
+
+  pub from-new : n ≤ k
+      → _≡_ {A = State}
+      (record { env = start; count = 0; others = all; depth = 0; steps = steps; refusal = 0; line = 0 })
+      (stateFrom k n env count depth start all steps)
+  unfolding stateFrom
+  from-new h = rw (le-ltb k n h, stateFrom) refl
 
 -- ---- the reading behind the line
 

@@ -1,5 +1,5 @@
 -- The walk over lines: what is left of a source gives the same end as all of it did from the start. Laws start, more, refused, end. Assumes nothing.
-use mathlib.Core.Path.{_≡_, refl, sym, ap, ap₂, _∙_}
+use mathlib.Core.Path.{_≡_, refl, sym, ap, ap₂, subst, _∙_}
 use mathlib.Core.List.{List, [], _∷_}
 use Prim.Native.Nat.{ℕ, zero, suc, _+_, _*_, _≤_, _<_}
 use native.Mathlib.Nat.{add-zero}
@@ -13,7 +13,8 @@ use Rattle.sheet.specs.Refusals.{Outcome, _>>=_}
 use Rattle.sheet.proofs.Outcomes.{then-going, then-refused}
 use Rattle.parser.specs.declared.sofar.Sofar.{Sofar}
 use Rattle.meaning.specs.Sheets.{Read, kindOf, takenBy, lineRead, linesRead}
-use Rattle.parser.specs.Columns.{Tables, readIn, readOutcome, Fits, Tabled, Begins, Goes}
+use Rattle.parser.specs.Columns.{Tables, placeColumn, readIn, readOutcome, Fits, Tabled, Begins, Goes}
+use Rattle.parser.specs.Walks.{restRead, Walking, BareAt, PartsRead}
 use Rattle.parser.proofs.Going.{read-going, read-refused}
 
 -- lines that are passed over
@@ -25,18 +26,10 @@ lines-skip rate (suc k) line [] r = refl
 lines-skip rate (suc k) line (l ∷ ls) r =
     lines-skip rate k (line + 1) ls r ∙ ap (λ (n : ℕ). linesRead rate 0 n (drop k ls) r) (let z : line + 1 + k ≡ line + suc k = omega arith in z)
 
--- the walk has come to a place, and the rest gives this outcome
-pub record Walking (rate : ℕ) (s : List ℕ) (o : Outcome Read) (places : List ℕ) (r : Sofar) (fs : List Float) (is ls : List ℕ) (t : Tables) : Type 0 where
-  pub goes : r .refusal ≡ 0
-  pub inside : r .at ≤ length s
-  pub lines : r .line ≤ 33 * r .at + 1
-  pub fits : Fits places r fs is ls
-  pub tabled : Tabled r t
-  pub left : linesRead rate 0 (r .line) (linesOf (drop (r .at) s)) (readIn s places r fs is ls t) ≡ o
-
 module _ (rate : ℕ) (s places : List ℕ) (r : Sofar) (fs : List Float) (is ls : List ℕ) (t : Tables) where
   pub walking-start : r .refusal ≡ 0 → r .at ≡ 0 → r .line ≡ 1 → Fits places r fs is ls → Tabled r t
       → Walking rate s (linesRead rate 0 1 (linesOf s) (readIn s places r fs is ls t)) places r fs is ls t
+  unfolding restRead
   walking-start z a l f g =
       record {
         goes = z;
@@ -54,7 +47,7 @@ module _ (rate : ℕ) (s places : List ℕ) (r : Sofar) (fs : List Float) (is ls
 
     -- no line is left
     pub walking-end : length s ≤ r .at → readOutcome s places r fs is ls t ≡ o
-    unfolding linesOf linesRead
+    unfolding linesOf linesRead restRead
     walking-end h =
         read-going s places r fs is ls t (w .goes)
         ∙ ap (λ (x : List ℕ). linesRead rate 0 (r .line) (linesOf x) (readIn s places r fs is ls t)) (sym (drop-of-length-le s h))
@@ -76,7 +69,7 @@ module _ (rate : ℕ) (s places : List ℕ) (r : Sofar) (fs : List Float) (is ls
       here = line-placed s (r .at) (record { end = end; next = next }) (b .here) (b .inside) .lines
 
       one-more : o ≡ (lineRead rate (kindOf text) (r .line) text below (readIn s places r fs is ls t) >>= (λ x. linesRead rate taken (r .line + 1) below x))
-      unfolding linesRead
+      unfolding linesRead restRead
       one-more = sym (w .left) ∙ ap (λ (x : List (List ℕ)). linesRead rate 0 (r .line) x (readIn s places r fs is ls t)) here
 
       pub walking-refused : (q .refusal ≡ 0 → ⊥) → readOutcome s places′ q fs′ is′ ls′ t′ ≡ o
@@ -85,6 +78,7 @@ module _ (rate : ℕ) (s places : List ℕ) (r : Sofar) (fs : List Float) (is ls
           e ∙ sym (one-more ∙ then-refused (q .refusal) (q .line) _ _ (sym (g .means) ∙ e))
 
       pub walking-more : q .refusal ≡ 0 → Walking rate s o places′ q fs′ is′ ls′ t′
+      unfolding restRead
       walking-more z =
           record {
             goes = z;
@@ -103,3 +97,56 @@ module _ (rate : ℕ) (s places : List ℕ) (r : Sofar) (fs : List Float) (is ls
                 ∙ ap (drop (1 + taken)) here
                 ∙ ap (λ (n : ℕ). drop n (text ∷ below)) (let y : 1 + taken ≡ suc taken = omega arith in y))));
           }
+
+-- ---- a run of parts' lines
+
+module _ (rate : ℕ) (s : List ℕ) (r : Sofar) (fs : List Float) (is ls : List ℕ) (t : Tables) (o : Outcome Read) (w : Walking rate s o (placeColumn ls) r fs is ls t) (first : Sofar) where
+  -- it ends at the source's end
+  pub run-ends : first .at ≤ r .at → length s ≤ r .at → PartsRead rate s o first r fs is ls t
+  run-ends m h =
+      record {
+        on = λ z. w;
+        bare = λ z i. absurd (omega (arith, h, i));
+        onward = λ z. m;
+        ended = λ n. absurd (n (w .goes));
+      }
+
+  -- or at a line that names no part
+  pub run-stops : first .at ≤ r .at → (a : Line) → a ≡ lineAt s (r .at) → BareAt s (r .at) (a .end) → PartsRead rate s o first r fs is ls t
+  run-stops m a e h =
+      record {
+        on = λ z. w;
+        bare = λ z i. subst (λ (x : Line). BareAt s (r .at) (x .end)) e h;
+        onward = λ z. m;
+        ended = λ n. absurd (n (w .goes));
+      }
+
+  -- or with a refusal
+  pub run-refuses : (end next : ℕ) → Begins s r end next → (q : Sofar) (fs′ : List Float) (is′ ls′ : List ℕ) (t′ : Tables)
+      → Goes (lineRead rate (kindOf (lineOf (drop (r .at) s))) (r .line) (lineOf (drop (r .at) s)) (linesOf (drop next s)) (readIn s (placeColumn ls) r fs is ls t)) (1 + takenBy (kindOf (lineOf (drop (r .at) s))) (linesOf (drop next s))) s (placeColumn ls′) r q fs′ is′ ls′ t′
+      → (q .refusal ≡ 0 → ⊥) → PartsRead rate s o first q fs′ is′ ls′ t′
+  run-refuses end next b q fs′ is′ ls′ t′ g n =
+      record {
+        on = λ z. absurd (n z);
+        bare = λ z i. absurd (n z);
+        onward = λ z. absurd (n z);
+        ended = walking-refused rate s (placeColumn ls) r fs is ls t o w end next b (placeColumn ls′) q fs′ is′ ls′ t′ g;
+      }
+
+-- the walk, told of what its own rest gives
+pub walking-own : (rate : ℕ) (s places : List ℕ) (r : Sofar) (fs : List Float) (is ls : List ℕ) (t : Tables) (o : Outcome Read) → Walking rate s o places r fs is ls t
+    → Walking rate s (restRead rate s places r fs is ls t) places r fs is ls t
+walking-own rate s places r fs is ls t o w =
+    record { goes = w .goes; inside = w .inside; lines = w .lines; fits = w .fits; tabled = w .tabled; left = refl }
+
+-- and of what the rest gave before the run
+module _ (rate : ℕ) (s places : List ℕ) (r : Sofar) (fs : List Float) (is ls : List ℕ) (t : Tables) (o : Outcome Read) (w : Walking rate s o places r fs is ls t) (q : Sofar) (fs′ : List Float) (is′ ls′ : List ℕ) (t′ : Tables) (p : PartsRead rate s (restRead rate s places r fs is ls t) r q fs′ is′ ls′ t′) where
+  pub run-on : q .refusal ≡ 0 → Walking rate s o (placeColumn ls′) q fs′ is′ ls′ t′
+  run-on z = subst (λ (x : Outcome Read). Walking rate s x (placeColumn ls′) q fs′ is′ ls′ t′) (w .left) (p .on z)
+
+  pub run-ended : (q .refusal ≡ 0 → ⊥) → readOutcome s (placeColumn ls′) q fs′ is′ ls′ t′ ≡ o
+  run-ended n = p .ended n ∙ w .left
+
+-- the line is where `line_at` finds it
+pub bare-as : (s : List ℕ) (at : ℕ) (a : Line) → a ≡ lineAt s at → BareAt s at (lineAt s at .end) → BareAt s at (a .end)
+bare-as s at a e h = subst (λ (x : Line). BareAt s at (x .end)) (sym e) h

@@ -6,11 +6,13 @@ use mathlib.Core.List.{List, [], _∷_}
 use mathlib.Core.Option.{some}
 use Prim.Native.Nat.{ℕ, zero, suc, _+_, _*_, _-_, _≤_, _<_}
 use lib.Dec.{ltb}
-use lib.ListN.{length, getD, set}
+use lib.ListN.{length, take, getD, set}
 use lib.Ieee.{Float}
-use Rattle.lines.specs.Names.{placeAmong}
+use Rattle.lines.specs.Names.{between, namesIn, placeAmong}
+use Rattle.lines.specs.Tokens.{nameAt}
 use Rattle.sheet.specs.Capacities.{partsMost, notesMost, loopsMost}
 use Rattle.sheet.specs.Refusals.{Outcome}
+use Rattle.environment.specs.declared.environment.Environment.{Environment}
 use Rattle.environment.specs.Environment.{atTheStart}
 use Rattle.part.specs.declared.state.State.{State}
 use Rattle.part.specs.Body.{Book, Progress, bodyRead}
@@ -18,9 +20,11 @@ use Rattle.part.specs.Columns.{progressOf, Ready}
 use Rattle.part.specs.Reading.{stateAfter, Held}
 use Rattle.tables.specs.Tables.{withEntry}
 use Rattle.layout.specs.Regions.{region}
+use Rattle.parser.specs.declared.parts.Parted.{Parted}
 use Rattle.parser.specs.declared.sofar.Sofar.{Sofar}
 use Rattle.parser.specs.Columns.{placeColumn, partsFrom, playedIn, Fits, Came, refusedAt, passedTo}
 use Rattle.meaning.specs.Parts.{NamedPart, linePlayed}
+use Rattle.meaning.specs.Sheets.{kindOf, partLine}
 
 -- ---- a part's state
 
@@ -36,6 +40,14 @@ stateOf r k =
       refusal = 0;
       line = 0;
     }
+
+-- the same from what the part has, or that of a new part where k is not one of n parts
+unfoldable pub stateFrom : (k n : ℕ) → Environment → (count depth : ℕ) → Environment → (all steps : ℕ) → State
+stateFrom k n env count depth start all steps =
+    elim (ltb k n) [
+      | true ↦ record { env = env; count = count; others = all - count; depth = depth; steps = steps; refusal = 0; line = 0 }
+      | false ↦ record { env = start; count = 0; others = all; depth = 0; steps = steps; refusal = 0; line = 0 }
+    ]
 
 -- a reading with this state for the part k
 abbrev pub keptWith : Sofar → ℕ → State → Sofar
@@ -82,6 +94,16 @@ withNew r =
 -- the reading with the part k in it, which is there or is one more
 unfoldable pub withPart : Sofar → ℕ → Sofar
 withPart r k = elim (ltb k (r .parts)) [ true ↦ r | false ↦ withNew r ]
+
+-- which part a line names: it is a part's, with a name and a body, and the name's place among those of n parts; or it is none of that
+pub record OfPart (s : List ℕ) (at end n : ℕ) (p : Parted) (ls : List ℕ) : Type 0 where
+  pub bare : p .named ≡ false → kindOf (between s at end) ≡ partLine → nameAt (between s at end) .two ≡ false
+  pub kind : p .named ≡ true → kindOf (between s at end) ≡ partLine
+  pub two : p .named ≡ true → nameAt (between s at end) .two ≡ true
+  pub place : p .named ≡ true
+      → p .place ≡ placeAmong (between (between s at end) (nameAt (between s at end) .from) (nameAt (between s at end) .end)) (namesIn s (take (2 * n) (placeColumn ls)))
+  pub begins : p .named ≡ true → p .from ≡ at + nameAt (between s at end) .from
+  pub ends : p .named ≡ true → p .end ≡ at + nameAt (between s at end) .end
 
 -- the name of the part k has its places in the column, where n parts were there before
 pub record NamedAt (k n from end : ℕ) (ls ls′ : List ℕ) : Type 0 where

@@ -2,18 +2,18 @@
 
 ghost use mathlib.Core.Path.{_≡_};
 ghost use mathlib.Core.List.{List};
-ghost use Prim.Native.Nat.{ℕ, _+_, _≤_, _<_};
-ghost use lib.ListN.{length, drop, getD};
+ghost use Prim.Native.Nat.{ℕ, _+_, _≤_};
+ghost use lib.ListN.{length, drop};
 ghost use lib.Ieee.{Float};
 ghost use Rattle.lines.specs.Lines.{lineOf};
-ghost use Rattle.environment.specs.Environment.{atTheStart};
-ghost use Rattle.directive.specs.Directives.{directiveOutcome, applied};
+ghost use Rattle.directive.specs.Directives.{directiveOutcome, applied, appliedTo};
 ghost use Rattle.tables.specs.Tables.{numberOf};
 ghost use Rattle.meaning.specs.Sheets.{directiveRead, macroRead};
 ghost use Rattle.parser.specs.Columns.{Tables, tablesIn, readIn, Fits, Tabled, Begins, Goes, refusedAt, passedTo, withEnvs};
 use crate::sofar::Sofar;
 use directive::directive::Directive;
 use directive::directive::apply;
+use directive::directive::apply_to_parts;
 use directive::directive::read_directive;
 use tables::table::macro_line;
 
@@ -58,26 +58,20 @@ fn refusal_of(d: Directive) -> u32
 
 // The starting environment and that of every part, changed by a directive.
 fn changed(d: Directive, r: Sofar) -> Sofar
-    requires { ⌜ (r .parts ≤ 16) × (length (r .envs) ≡ 16) ⌝ }
-    ensures whole { λ q. ⌜ q ≡ withEnvs r (applied d (r .start)) (q .envs) ⌝ }
-    ensures each { λ q. ⌜ (length (q .envs) ≡ length (r .envs)) × ((j : ℕ) → j < r .parts → getD (q .envs) j atTheStart ≡ applied d (getD (r .envs) j atTheStart)) ⌝ }
+    ensures { λ q. ⌜ q ≡ withEnvs r (applied d (r .start)) (appliedTo d (r .parts) (r .envs)) ⌝ }
 {
-    let parts = r.parts;
-    let mut envs = r.envs;
-    let mut i = 0;
-    while i < parts {
-        envs[i] = apply(d, envs[i]);
-        i += 1;
-    }
+    let start = apply(d, r.start);
+    let envs = r.envs;
+    let each = apply_to_parts(d, envs, r.parts);
     let mut q = r;
-    q.start = apply(d, r.start);
-    q.envs = envs;
+    q.start = start;
+    q.envs = each;
     q
 }
 
 // A directive's line.
 pub(crate) fn directive_step(source: &[u8], end: usize, next: usize, r: Sofar) -> Sofar
-    requires { ⌜ Begins (now source) r end next × ((r .parts ≤ 16) × (length (r .envs) ≡ 16)) ⌝ }
+    requires { ⌜ Begins (now source) r end next ⌝ }
     ensures { λ q. ⌜ ((places : List ℕ) (fs : List Float) (is ls : List ℕ) (t : Tables) → Fits places r fs is ls → Tabled r t → Goes (directiveRead (r .line) (lineOf (drop (r .at) (now (source .entry)))) (readIn (now (source .entry)) places r fs is ls t)) 1 (now (source .entry)) places r q fs is ls t) ⌝ }
 {
     let at = r.at;

@@ -2,15 +2,16 @@
 
 ghost use mathlib.Core.Path.{_≡_};
 ghost use mathlib.Core.List.{List};
-ghost use Prim.Native.Nat.{ℕ, _+_, _*_, _≤_, _<_};
+ghost use Prim.Native.Nat.{ℕ, _+_, _≤_};
 ghost use lib.ListN.{length, drop};
 ghost use lib.Ieee.{Float};
 ghost use Rattle.lines.specs.Lines.{linesOf, lineOf};
 ghost use Rattle.meaning.specs.Sheets.{nothingRead, kindOf, takenBy, lineRead, linesRead};
 ghost use Rattle.parser.specs.Columns.{placeColumn, tablesIn, readIn, readOutcome, Fits, Tabled, Begins, Goes, nothingSofar};
+ghost use Rattle.parser.specs.Walks.{BareAt};
 use crate::header::default_instrument;
 use crate::header::header_step;
-use crate::parts::part_step;
+use crate::runs::part_lines;
 use crate::sofar::Sofar;
 use crate::steps::directive_step;
 use crate::steps::macro_step;
@@ -18,7 +19,7 @@ use crate::steps::passed;
 use environment::environment::Environment;
 use lines::lines::line_at;
 
-// One line, by the byte that it begins with.
+// A line that names no part, by the byte that it begins with.
 fn line_step(
     source: &[u8],
     end: usize,
@@ -26,14 +27,11 @@ fn line_step(
     bodies: &mut [usize],
     numbers: &mut [f32],
     shape: &mut [usize],
-    floats: &mut [f32],
-    bytes: &mut [u8],
-    loops: &mut [usize],
     r: Sofar,
-    rate: u32,
 ) -> Sofar
-    requires { ⌜ Begins (now source) r end next × (Fits (placeColumn (now loops)) r (now floats) (now bytes) (now loops) × Tabled r (tablesIn (now bodies) (now numbers) (now shape))) ⌝ }
-    ensures { λ q. ⌜ Goes (lineRead rate (kindOf (lineOf (drop (r .at) (now (source .entry))))) (r .line) (lineOf (drop (r .at) (now (source .entry)))) (linesOf (drop next (now (source .entry)))) (readIn (now (source .entry)) (placeColumn (now (loops .entry))) r (now (floats .entry)) (now (bytes .entry)) (now (loops .entry)) (tablesIn (now (bodies .entry)) (now (numbers .entry)) (now (shape .entry))))) (1 + takenBy (kindOf (lineOf (drop (r .at) (now (source .entry))))) (linesOf (drop next (now (source .entry))))) (now (source .entry)) (placeColumn (now (loops .exit))) r q (now (floats .exit)) (now (bytes .exit)) (now (loops .exit)) (tablesIn (now (bodies .exit)) (now (numbers .exit)) (now (shape .exit))) ⌝ }
+    requires line { ⌜ Begins (now source) r end next × Tabled r (tablesIn (now bodies) (now numbers) (now shape)) ⌝ }
+    requires bare { ⌜ BareAt (now source) (r .at) end ⌝ }
+    ensures { λ q. ⌜ ((rate : ℕ) (fs : List Float) (is ls : List ℕ) → Fits (placeColumn ls) r fs is ls → Goes (lineRead rate (kindOf (lineOf (drop (r .at) (now (source .entry))))) (r .line) (lineOf (drop (r .at) (now (source .entry)))) (linesOf (drop next (now (source .entry)))) (readIn (now (source .entry)) (placeColumn ls) r fs is ls (tablesIn (now (bodies .entry)) (now (numbers .entry)) (now (shape .entry))))) (1 + takenBy (kindOf (lineOf (drop (r .at) (now (source .entry))))) (linesOf (drop next (now (source .entry))))) (now (source .entry)) (placeColumn ls) r q fs is ls (tablesIn (now (bodies .exit)) (now (numbers .exit)) (now (shape .exit)))) ⌝ }
 {
     let at = r.at;
     if at >= end {
@@ -52,19 +50,7 @@ fn line_step(
     if b == 33 {
         return macro_step(source, end, next, bodies, shape, r);
     }
-    part_step(
-        source,
-        end,
-        next,
-        bodies,
-        numbers,
-        shape,
-        floats,
-        bytes,
-        loops,
-        r,
-        rate,
-    )
+    passed(r, next)
 }
 
 // Nothing is read yet.
@@ -106,13 +92,8 @@ pub(crate) fn walk(
     default_instrument(numbers, shape);
     let mut r = nothing_sofar();
     while r.at < source.len() {
-        let line = line_at(source, r.at);
-        let end = line.end;
-        let next = line.next;
-        r = line_step(
+        r = part_lines(
             source,
-            end,
-            next,
             bodies,
             numbers,
             shape,
@@ -122,6 +103,15 @@ pub(crate) fn walk(
             r,
             rate,
         );
+        if r.refusal != 0 {
+            return r;
+        }
+        let at = r.at;
+        if at >= source.len() {
+            return r;
+        }
+        let line = line_at(source, at);
+        r = line_step(source, line.end, line.next, bodies, numbers, shape, r);
         if r.refusal != 0 {
             return r;
         }
