@@ -64,8 +64,10 @@ returns : tie.Need-returns Inv-loop μ-loop
 returns c =
     let l = c .before .before .before .before .before .before .before .before .before .before .before .before .before .before .before .before .before .loop in
     let s = c .before .before .before .before .before .before .before .before .before .before .before .before .before .before .before .before .before .before .before .before .before .before .before .before .before .before .before .before .before .before .before .before .before in
+    let a = s .args in
     let y = c .before .before .before .before .before .before .before .before .part-lines in
-    (run-ended _ _ _ _ _ _ _ _ _ (l .inv) _ _ _ _ _ (y .ensures) (c .if2 .taken), λ z. absurd (c .if2 .taken z))
+    let m = y .last .1 .1 .1 .1 in
+    (run-ended (a .rate) (a .source .now) (placeColumn (l .loops)) (l .r) (l .floats) (l .bytes) (l .loops) (tablesIn (l .bodies) (l .numbers) (l .shape)) _ (l .inv) (y .result) (m .0) (m .1 .0) (m .1 .1 .0) (tablesIn (l .bodies) (l .numbers) (l .shape)) (y .ensures) (c .if2 .taken), λ z. absurd (c .if2 .taken z))
 
 same-length-7 : tie.Need-same-length-7 Inv-loop μ-loop
 same-length-7 c = c .before .before .before .before .before .before .before .before .before .before .before .before .before .before .before .before .before .before .loop .inv .tabled .bodies-length ∙ sym (c .before .before .before .before .before .before .before .before .before .before .before .before .before .before .before .before .before .before .before .before .before .before .before .before .before .before .before .before .before .before .before .before .before .before .pre .1 .0)
@@ -89,9 +91,11 @@ returns-2 : tie.Need-returns-2 Inv-loop μ-loop
 returns-2 c =
     let l = c .before .before .before .before .before .before .before .before .before .before .before .before .before .before .before .before .before .before .loop in
     let s = c .before .before .before .before .before .before .before .before .before .before .before .before .before .before .before .before .before .before .before .before .before .before .before .before .before .before .before .before .before .before .before .before .before .before in
+    let a = s .args in
     let y = c .before .before .before .before .before .before .before .before .before .part-lines in
-    let w = run-on _ _ _ _ _ _ _ _ _ (l .inv) _ _ _ _ _ (y .ensures) (c .before .if2 .left) in
-    (walking-end _ _ _ _ _ _ _ _ _ w (c .if3 .taken), λ z. (w .fits, w .tabled))
+    let m = y .last .1 .1 .1 .1 in
+    let w = run-on (a .rate) (a .source .now) (placeColumn (l .loops)) (l .r) (l .floats) (l .bytes) (l .loops) (tablesIn (l .bodies) (l .numbers) (l .shape)) _ (l .inv) (y .result) (m .0) (m .1 .0) (m .1 .1 .0) (tablesIn (l .bodies) (l .numbers) (l .shape)) (y .ensures) (c .before .if2 .left) in
+    (walking-end (a .rate) (a .source .now) (placeColumn (m .1 .1 .0)) (y .result) (m .0) (m .1 .0) (m .1 .1 .0) (tablesIn (l .bodies) (l .numbers) (l .shape)) _ w (c .if3 .taken), λ z. (w .fits, w .tabled))
 
 line-at-requires : tie.Need-line-at-requires Inv-loop μ-loop
 line-at-requires c κs = tt
@@ -100,9 +104,11 @@ line-step-requires : tie.Need-line-step-requires Inv-loop μ-loop
 line-step-requires c κs =
     let l = c .before .before .before .before .before .before .before .before .before .before .before .before .before .before .before .before .before .before .before .before .before .before .loop in
     let s = c .before .before .before .before .before .before .before .before .before .before .before .before .before .before .before .before .before .before .before .before .before .before .before .before .before .before .before .before .before .before .before .before .before .before .before .before .before .before in
+    let a = s .args in
     let y = c .before .before .before .before .before .before .before .before .before .before .before .before .before .part-lines in
-    let w = run-on _ _ _ _ _ _ _ _ _ (l .inv) _ _ _ _ _ (y .ensures) (c .before .before .before .before .before .if2 .left) in
-    let b = walking-begins _ _ _ _ _ _ _ _ _ w _ (c .before .before .before .line-at .ensures) (c .before .before .before .before .if3 .left) (s .pre .0) in
+    let m = y .last .1 .1 .1 .1 in
+    let w = run-on (a .rate) (a .source .now) (placeColumn (l .loops)) (l .r) (l .floats) (l .bytes) (l .loops) (tablesIn (l .bodies) (l .numbers) (l .shape)) _ (l .inv) (y .result) (m .0) (m .1 .0) (m .1 .1 .0) (tablesIn (l .bodies) (l .numbers) (l .shape)) (y .ensures) (c .before .before .before .before .before .if2 .left) in
+    let b = walking-begins (a .rate) (a .source .now) (placeColumn (m .1 .1 .0)) (y .result) (m .0) (m .1 .0) (m .1 .1 .0) (tablesIn (l .bodies) (l .numbers) (l .shape)) _ w _ (c .before .before .before .line-at .ensures) (c .before .before .before .before .if3 .left) (s .pre .0) in
     ((b, w .tabled), bare-as _ _ _ (c .before .before .before .line-at .ensures) (y .ensures .bare (c .before .before .before .before .before .if2 .left) (c .before .before .before .before .if3 .left)))
 
 same-length-13 : tie.Need-same-length-13 Inv-loop μ-loop
@@ -127,22 +133,24 @@ returns-3 : tie.Need-returns-3 Inv-loop μ-loop
 returns-3 c =
     let l = c .before .before .before .before .before .before .before .before .before .before .before .before .before .before .before .before .before .before .before .before .before .before .before .before .before .before .before .before .before .before .before .loop in
     let s = c .before .before .before .before .before .before .before .before .before .before .before .before .before .before .before .before .before .before .before .before .before .before .before .before .before .before .before .before .before .before .before .before .before .before .before .before .before .before .before .before .before .before .before .before .before .before .before in
+    let a = s .args in
     let y = c .before .before .before .before .before .before .before .before .before .before .before .before .before .before .before .before .before .before .before .before .before .before .part-lines in
-    let w = run-on _ _ _ _ _ _ _ _ _ (l .inv) _ _ _ _ _ (y .ensures) (c .before .before .before .before .before .before .before .before .before .before .before .before .before .before .if2 .left) in
-    let b = walking-begins _ _ _ _ _ _ _ _ _ w _ (c .before .before .before .before .before .before .before .before .before .before .before .before .line-at .ensures) (c .before .before .before .before .before .before .before .before .before .before .before .before .before .if3 .left) (s .pre .0) in
     let m = y .last .1 .1 .1 .1 in
-    let g = c .before .before .before .before .before .before .before .before .line-step .ensures (s .args .rate) (m .0) (m .1 .0) (m .1 .1 .0) (w .fits) in
-    (walking-refused _ _ _ _ _ _ _ _ _ w _ _ b _ _ _ _ _ _ g (c .if4 .taken), λ z. absurd (c .if4 .taken z))
+    let w = run-on (a .rate) (a .source .now) (placeColumn (l .loops)) (l .r) (l .floats) (l .bytes) (l .loops) (tablesIn (l .bodies) (l .numbers) (l .shape)) _ (l .inv) (y .result) (m .0) (m .1 .0) (m .1 .1 .0) (tablesIn (l .bodies) (l .numbers) (l .shape)) (y .ensures) (c .before .before .before .before .before .before .before .before .before .before .before .before .before .before .if2 .left) in
+    let b = walking-begins (a .rate) (a .source .now) (placeColumn (m .1 .1 .0)) (y .result) (m .0) (m .1 .0) (m .1 .1 .0) (tablesIn (l .bodies) (l .numbers) (l .shape)) _ w _ (c .before .before .before .before .before .before .before .before .before .before .before .before .line-at .ensures) (c .before .before .before .before .before .before .before .before .before .before .before .before .before .if3 .left) (s .pre .0) in
+    let g = c .before .before .before .before .before .before .before .before .line-step .ensures (a .rate) (m .0) (m .1 .0) (m .1 .1 .0) (w .fits) in
+    (walking-refused (a .rate) (a .source .now) (placeColumn (m .1 .1 .0)) (y .result) (m .0) (m .1 .0) (m .1 .1 .0) (tablesIn (l .bodies) (l .numbers) (l .shape)) _ w _ _ b _ _ _ _ _ _ g (c .if4 .taken), λ z. absurd (c .if4 .taken z))
 
 loop-less : tie.Need-loop-less Inv-loop μ-loop
 loop-less c =
     let l = c .before .before .before .before .before .before .before .before .before .before .before .before .before .before .before .before .before .before .before .before .before .before .before .before .before .before .before .before .before .before .before .loop in
     let s = c .before .before .before .before .before .before .before .before .before .before .before .before .before .before .before .before .before .before .before .before .before .before .before .before .before .before .before .before .before .before .before .before .before .before .before .before .before .before .before .before .before .before .before .before .before .before .before in
+    let a = s .args in
     let y = c .before .before .before .before .before .before .before .before .before .before .before .before .before .before .before .before .before .before .before .before .before .before .part-lines in
-    let w = run-on _ _ _ _ _ _ _ _ _ (l .inv) _ _ _ _ _ (y .ensures) (c .before .before .before .before .before .before .before .before .before .before .before .before .before .before .if2 .left) in
-    let b = walking-begins _ _ _ _ _ _ _ _ _ w _ (c .before .before .before .before .before .before .before .before .before .before .before .before .line-at .ensures) (c .before .before .before .before .before .before .before .before .before .before .before .before .before .if3 .left) (s .pre .0) in
     let m = y .last .1 .1 .1 .1 in
-    let g = c .before .before .before .before .before .before .before .before .line-step .ensures (s .args .rate) (m .0) (m .1 .0) (m .1 .1 .0) (w .fits) in
+    let w = run-on (a .rate) (a .source .now) (placeColumn (l .loops)) (l .r) (l .floats) (l .bytes) (l .loops) (tablesIn (l .bodies) (l .numbers) (l .shape)) _ (l .inv) (y .result) (m .0) (m .1 .0) (m .1 .1 .0) (tablesIn (l .bodies) (l .numbers) (l .shape)) (y .ensures) (c .before .before .before .before .before .before .before .before .before .before .before .before .before .before .if2 .left) in
+    let b = walking-begins (a .rate) (a .source .now) (placeColumn (m .1 .1 .0)) (y .result) (m .0) (m .1 .0) (m .1 .1 .0) (tablesIn (l .bodies) (l .numbers) (l .shape)) _ w _ (c .before .before .before .before .before .before .before .before .before .before .before .before .line-at .ensures) (c .before .before .before .before .before .before .before .before .before .before .before .before .before .if3 .left) (s .pre .0) in
+    let g = c .before .before .before .before .before .before .before .before .line-step .ensures (a .rate) (m .0) (m .1 .0) (m .1 .1 .0) (w .fits) in
     let o = g .onward (c .if4 .left) in
     falls _ _ _ _ (y .ensures .onward (c .before .before .before .before .before .before .before .before .before .before .before .before .before .before .if2 .left)) (o .0) (o .1)
 
@@ -150,12 +158,13 @@ loop-again : tie.Need-loop-again Inv-loop μ-loop
 loop-again c =
     let l = c .before .before .before .before .before .before .before .before .before .before .before .before .before .before .before .before .before .before .before .before .before .before .before .before .before .before .before .before .before .before .before .loop in
     let s = c .before .before .before .before .before .before .before .before .before .before .before .before .before .before .before .before .before .before .before .before .before .before .before .before .before .before .before .before .before .before .before .before .before .before .before .before .before .before .before .before .before .before .before .before .before .before .before in
+    let a = s .args in
     let y = c .before .before .before .before .before .before .before .before .before .before .before .before .before .before .before .before .before .before .before .before .before .before .part-lines in
-    let w = run-on _ _ _ _ _ _ _ _ _ (l .inv) _ _ _ _ _ (y .ensures) (c .before .before .before .before .before .before .before .before .before .before .before .before .before .before .if2 .left) in
-    let b = walking-begins _ _ _ _ _ _ _ _ _ w _ (c .before .before .before .before .before .before .before .before .before .before .before .before .line-at .ensures) (c .before .before .before .before .before .before .before .before .before .before .before .before .before .if3 .left) (s .pre .0) in
     let m = y .last .1 .1 .1 .1 in
-    let g = c .before .before .before .before .before .before .before .before .line-step .ensures (s .args .rate) (m .0) (m .1 .0) (m .1 .1 .0) (w .fits) in
-    walking-more _ _ _ _ _ _ _ _ _ w _ _ b _ _ _ _ _ _ g (c .if4 .left)
+    let w = run-on (a .rate) (a .source .now) (placeColumn (l .loops)) (l .r) (l .floats) (l .bytes) (l .loops) (tablesIn (l .bodies) (l .numbers) (l .shape)) _ (l .inv) (y .result) (m .0) (m .1 .0) (m .1 .1 .0) (tablesIn (l .bodies) (l .numbers) (l .shape)) (y .ensures) (c .before .before .before .before .before .before .before .before .before .before .before .before .before .before .if2 .left) in
+    let b = walking-begins (a .rate) (a .source .now) (placeColumn (m .1 .1 .0)) (y .result) (m .0) (m .1 .0) (m .1 .1 .0) (tablesIn (l .bodies) (l .numbers) (l .shape)) _ w _ (c .before .before .before .before .before .before .before .before .before .before .before .before .line-at .ensures) (c .before .before .before .before .before .before .before .before .before .before .before .before .before .if3 .left) (s .pre .0) in
+    let g = c .before .before .before .before .before .before .before .before .line-step .ensures (a .rate) (m .0) (m .1 .0) (m .1 .1 .0) (w .fits) in
+    walking-more (a .rate) (a .source .now) (placeColumn (m .1 .1 .0)) (y .result) (m .0) (m .1 .0) (m .1 .1 .0) (tablesIn (l .bodies) (l .numbers) (l .shape)) _ w _ _ b _ _ _ _ _ _ g (c .if4 .left)
 
 same-length-19 : tie.Need-same-length-19 Inv-loop μ-loop
 same-length-19 c = c .before .before .loop .inv .tabled .bodies-length ∙ sym (c .before .before .before .before .before .before .before .before .before .before .before .before .before .before .before .before .before .before .pre .1 .0)
