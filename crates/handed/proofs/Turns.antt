@@ -1,26 +1,13 @@
--- What the turns of a loop over parts or notes ask for, over plain numbers: places that fit, one turn more, one left less, parts that are at most 16, and notes
--- that end within 2,048. Assumes nothing.
+-- What the turns of a loop over parts or notes ask for, over plain numbers, beside what `instrument`'s `Turns` has: parts that are at most 16, and notes that end
+-- within 2,048. Assumes nothing.
 use mathlib.Core.Path.{_≡_}
 use Prim.Native.Nat.{ℕ, _+_, _-_, _*_, _≤_, _<_, min}
 use native.Mathlib.Omega.{arith}
-use borrow.Author.Needs.{scaled-fits}
 use mir.Syntax.{w64}
 use mir.Val.{Fits}
 
-pub less : (a b : ℕ) → b < a → a - (b + 1) < a - b
-less a b h = omega arith
-
-pub more : (a b : ℕ) → b < a → b + 1 ≤ a
-more a b h = omega arith
-
-pub meets : (a b : ℕ) → b ≤ a → a ≤ b → b ≡ a
-meets a b h l = omega arith
-
 pub below : (n most : ℕ) → n < most → most ≤ 4096 → Fits w64 (n + 1)
 below n most h m = omega arith
-
-pub small-place : (i most size : ℕ) → i < most → most * size ≤ 131072 → Fits w64 (i * size)
-small-place i most size h m = scaled-fits i most size h (omega arith)
 
 pub fewer : (p parts counted : ℕ) → p < parts → parts ≡ min counted 16 → p < 16
 fewer p parts counted h e = omega arith

@@ -1,6 +1,6 @@
 -- When a note sounds: before its start and from its end on it does not, in between it does; so by the case a sample is mixed or stays. Assumes nothing.
 use mathlib.Core.Path.{_≡_, refl}
-use mathlib.Core.Bool.{Bool, true, false, _&&_}
+use mathlib.Core.Bool.{true, false, and-false}
 use Prim.Native.Nat.{ℕ, _-_, _≤_, _<_}
 use lib.Dec.{leb}
 use lib.Ieee.{Float}
@@ -16,10 +16,6 @@ sounds-in k p a b = rw (le-leb (p .start) k a, lt-ltb k (endOf p) b)
 pub sounds-before : (k : ℕ) (p : Placed) → k < p .start → soundsAt k p ≡ false
 unfolding soundsAt
 sounds-before k p a = rw (lt-leb (p .start) k a)
-
-and-false : (b : Bool) → (b && false) ≡ false
-and-false true = refl
-and-false false = refl
 
 pub sounds-after : (k : ℕ) (p : Placed) → endOf p ≤ k → soundsAt k p ≡ false
 unfolding soundsAt

@@ -1,6 +1,6 @@
 -- What comes of a window of bytes, case by case, in 01's order of refusals. Assumes nothing.
 use mathlib.Core.Path.{_≡_, refl}
-use mathlib.Core.Bool.{Bool, true, false, _&&_}
+use mathlib.Core.Bool.{true, false, and-false}
 use mathlib.Core.List.{List}
 use Prim.Native.Nat.{ℕ, _-_, _≤_, _<_, min}
 use lib.Dec.{ltb}
@@ -15,10 +15,6 @@ use Rattle.handed.specs.Check.{isSheet}
 use Rattle.evaluator.specs.Samples.{samplesFrom}
 use Rattle.mixing.specs.Placing.{placed}
 use Rattle.windows.specs.Written.{writtenOf, writtenBy, writtenIn}
-
-and-false : (b : Bool) → (b && false) ≡ false
-and-false true = refl
-and-false false = refl
 
 module _ (rate : ℕ) (s : Sheet) (buffer : List ℕ) where
   abbrev room : ℕ

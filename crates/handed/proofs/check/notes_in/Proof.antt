@@ -10,7 +10,8 @@ use mir.Syntax.{w64}
 use mir.Val.{Fits}
 use Rattle.sheet.specs.Parts.{total}
 use Rattle.handed.proofs.Cuts.{take-cut}
-use Rattle.handed.proofs.Turns.{less, more, below, small-place, fewer, fewer-parts}
+use Rattle.instrument.proofs.Turns.{place-fits, less, more}
+use Rattle.handed.proofs.Turns.{below, fewer, fewer-parts}
 use Rattle.handed.proofs.Totals.{total-next, total-end}
 use Rattle.handed.proofs.check.notes_in.Statement.{statement}
 use Rattle.handed.proofs.check.notes_in.Tie as tie
@@ -47,7 +48,7 @@ loop-holds c =
     (omega arith, omega arith, omega (arith, ap total (take-cut (a .t1) (a .parts) 16 (c .least .result) (counts-16 (c .before)) (c .least .ensures))))
 
 mul-count : tie.Need-mul-count Inv-loop μ-loop
-mul-count c = small-place (c .before .loop .p) 16 8 (part-in c) (lit≤ tt)
+mul-count c = place-fits (c .before .loop .p) 16 8 (part-in c) (lit≤ tt)
 
 array-read-count : tie.Need-array-read-count Inv-loop μ-loop
 array-read-count c = part-in c
@@ -65,7 +66,7 @@ add-p : tie.Need-add-p Inv-loop μ-loop
 add-p c = below (c .before .before .loop .p) 16 (part-in (c .before)) (lit≤ tt)
 
 loop-less : tie.Need-loop-less Inv-loop μ-loop
-loop-less c = less _ (c .before .before .loop .p) (c .before .loop-test .taken)
+loop-less c = less (c .before .before .loop .p) _ (c .before .loop-test .taken)
 
 loop-again : tie.Need-loop-again Inv-loop μ-loop
 loop-again c =

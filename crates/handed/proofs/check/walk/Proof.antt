@@ -19,7 +19,8 @@ use Rattle.sheet.specs.Parts.{countsOf, total, instrumentsOf, releasesOf, lengt
 use Rattle.sheet.proofs.Basics.{false-true}
 use Rattle.handed.specs.Check.{all, notePasses}
 use Rattle.handed.proofs.Cuts.{take-cut}
-use Rattle.handed.proofs.Turns.{less, more, meets, below, small-place, under, fewer, fewer-parts, in-all, ends-within, sum-fits, at-next}
+use Rattle.instrument.proofs.Turns.{place-fits, less, more, meets}
+use Rattle.handed.proofs.Turns.{below, under, fewer, fewer-parts, in-all, ends-within, sum-fits, at-next}
 use Rattle.handed.proofs.Releases.{instruments-are, release-is}
 use Rattle.handed.proofs.Notes.{note-is}
 use Rattle.handed.proofs.Ends.{fromPart, fromNote, part-begins, part-ends, parts-end, note-ends}
@@ -107,7 +108,7 @@ loop-holds c =
     (omega arith, omega arith, from-none _ _ ends, tests)
 
 mul-count : tie.Need-mul-count Inv-loop2 μ-loop2 Inv-loop μ-loop
-mul-count c = small-place (c .before .loop .p) 16 8 (parts-within c) (lit≤ tt)
+mul-count c = place-fits (c .before .loop .p) 16 8 (parts-within c) (lit≤ tt)
 
 element-copy-out-count : tie.Need-element-copy-out-count Inv-loop2 μ-loop2 Inv-loop μ-loop
 element-copy-out-count c = parts-within c
@@ -136,7 +137,7 @@ loop2-holds c =
     (omega arith, omega arith, ap (max (o .end)) (sym ends) ∙ o .inv .2, sym tests ∙ o .inv .3)
 
 mul-note : tie.Need-mul-note Inv-loop2 μ-loop2 Inv-loop μ-loop
-mul-note c = small-place (c .before .loop2 .n) 2048 24 (notes-within c) (lit≤ tt)
+mul-note c = place-fits (c .before .loop2 .n) 2048 24 (notes-within c) (lit≤ tt)
 
 element-copy-out-note : tie.Need-element-copy-out-note Inv-loop2 μ-loop2 Inv-loop μ-loop
 element-copy-out-note c = notes-within c
@@ -145,7 +146,7 @@ least-requires-4 : tie.Need-least-requires-4 Inv-loop2 μ-loop2 Inv-loop μ-loop
 least-requires-4 c κs = search needs
 
 mul-released : tie.Need-mul-released Inv-loop2 μ-loop2 Inv-loop μ-loop
-mul-released c = small-place (c .least4 .result) 32 2064 (table-within c) (lit≤ tt)
+mul-released c = place-fits (c .least4 .result) 32 2064 (table-within c) (lit≤ tt)
 
 element-copy-out-released : tie.Need-element-copy-out-released Inv-loop2 μ-loop2 Inv-loop μ-loop
 element-copy-out-released c = table-within c
@@ -221,7 +222,7 @@ loop2-again c =
     let a = s .args .t1 in
     let sounds = d .before .counted .ensures .1 in
     let lasts = c .before .samples .ensures in (
-      more _ (l .n) h,
+      more (l .n) _ h,
       at-next (l .n) (l .start) (c .before .samples .result) (l .inv .1) (lasts .1),
       note-ends (s .args .rate) (releasesOf (instrumentsOf a)) (a .counts) parts (a .notes) p (l .n) _ (l .start) none h (stop-within w) _ (l .end) _ _ _ _
           (its-release (d .before .before)) sounds (lasts .0) (c .larger .ensures) (l .inv .2),
@@ -233,7 +234,7 @@ add-p : tie.Need-add-p Inv-loop2 μ-loop2 Inv-loop μ-loop
 add-p c = below (c .before .before .before .before .before .loop .p) 16 (parts-within (c .before .before .before .before)) (lit≤ tt)
 
 loop-less : tie.Need-loop-less Inv-loop2 μ-loop2 Inv-loop μ-loop
-loop-less c = less (c .before .before .before .before .before .before .least2 .result) (c .before .before .before .before .before .loop .p) (c .before .before .before .before .loop-test .taken)
+loop-less c = less (c .before .before .before .before .before .loop .p) (c .before .before .before .before .before .before .least2 .result) (c .before .before .before .before .loop-test .taken)
 
 loop-again : tie.Need-loop-again Inv-loop2 μ-loop2 Inv-loop μ-loop
 loop-again c =
@@ -244,10 +245,10 @@ loop-again c =
     let s = w .before .before .before .before .before .before in
     let a = s .args .t1 in
     let stop = o .n + w .least3 .result in
-    let e : l .n ≡ stop = meets stop (l .n) (l .inv .0) (c .loop2-test .left) in
+    let e : l .n ≡ stop = meets (l .n) stop (l .inv .0) (c .loop2-test .left) in
     let ends = part-ends (s .args .rate) (releasesOf (instrumentsOf a)) (a .counts) parts (a .notes) (o .p) (l .n) stop (l .start) e in
     let tests = played-ends (notePasses (s .args .rate) (instrumentsOf a)) (a .counts) parts (a .notes) (o .p) (l .n) stop e in
-    (more parts (o .p) (w .before .before .loop-test .taken), ends-within (l .n) (o .n) (w .least3 .result) _ e (w .least3 .ensures) (o .inv .1), ap (max (l .end)) (sym ends) ∙ l .inv .2, sym tests ∙ l .inv .3)
+    (more (o .p) parts (w .before .before .loop-test .taken), ends-within (l .n) (o .n) (w .least3 .result) _ e (w .least3 .ensures) (o .inv .1), ap (max (l .end)) (sym ends) ∙ l .inv .2, sym tests ∙ l .inv .3)
 
 returns-2 : tie.Need-returns-2 Inv-loop2 μ-loop2 Inv-loop μ-loop
 returns-2 c =
@@ -255,7 +256,7 @@ returns-2 c =
     let a = s .args .t1 in
     let parts = c .before .before .least2 .result in
     let l = c .before .loop in
-    let e : l .p ≡ parts = meets parts (l .p) (l .inv .0) (c .loop-test .left) in
+    let e : l .p ≡ parts = meets (l .p) parts (l .inv .0) (c .loop-test .left) in
     let ends = parts-end (s .args .rate) (releasesOf (instrumentsOf a)) (a .counts) parts (a .notes) (l .p) (l .n) e in
     let tests = played-all (notePasses (s .args .rate) (instrumentsOf a)) (a .counts) parts (a .notes) (l .p) (l .n) e in
     (sym tests ∙ l .inv .3, λ t. largest (l .end) _ _ (l .inv .2) ends)

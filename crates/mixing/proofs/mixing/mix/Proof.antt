@@ -11,7 +11,8 @@ use mir.Val.{Fits}
 use Rattle.instrument.specs.declared.machine.Instrument.{Instrument}
 use Rattle.sheet.specs.Parts.{instrumentsOf}
 use Rattle.sheet.specs.declared.note.Note.{Note}
-use Rattle.handed.proofs.Turns.{less, more, meets, below, small-place, under, fewer, in-all, ends-within, sum-fits, at-next}
+use Rattle.instrument.proofs.Turns.{place-fits, less, more, meets}
+use Rattle.handed.proofs.Turns.{below, under, fewer, in-all, ends-within, sum-fits, at-next}
 use Rattle.mixing.specs.Placing.{nobody, playerOf, soundsOf, placedNote, placed}
 use Rattle.mixing.specs.Mixing.{mixOne}
 use Rattle.mixing.proofs.Pieces.{note-none, note-sounds, note-reach}
@@ -130,7 +131,7 @@ loop-holds c =
     (omega arith, omega arith, going-same (sheet-begins (s .args .rate) (c .least2 .result) (s .args .t1) (omega (arith, counts-16 s, c .least2 .ensures))) going-start)
 
 mul-least : tie.Need-mul-least Inv-loop2 μ-loop2 Inv-loop μ-loop
-mul-least c = small-place (c .before .loop .p) 16 8 (parts-within c) (lit≤ tt)
+mul-least c = place-fits (c .before .loop .p) 16 8 (parts-within c) (lit≤ tt)
 
 element-copy-out-least : tie.Need-element-copy-out-least Inv-loop2 μ-loop2 Inv-loop μ-loop
 element-copy-out-least c = parts-within c
@@ -148,7 +149,7 @@ loop2-holds : tie.Need-loop2-holds Inv-loop2 μ-loop2 Inv-loop μ-loop
 loop2-holds c = (omega arith, omega arith, going-start)
 
 mul-note : tie.Need-mul-note Inv-loop2 μ-loop2 Inv-loop μ-loop
-mul-note c = small-place (c .before .loop2 .n) 2048 24 (notes-within c) (lit≤ tt)
+mul-note c = place-fits (c .before .loop2 .n) 2048 24 (notes-within c) (lit≤ tt)
 
 element-copy-out-note : tie.Need-element-copy-out-note Inv-loop2 μ-loop2 Inv-loop μ-loop
 element-copy-out-note c = notes-within c
@@ -157,7 +158,7 @@ least-requires-4 : tie.Need-least-requires-4 Inv-loop2 μ-loop2 Inv-loop μ-loop
 least-requires-4 c κs = search needs
 
 mul-released : tie.Need-mul-released Inv-loop2 μ-loop2 Inv-loop μ-loop
-mul-released c = small-place (c .least4 .result) 32 2064 (table-within c) (lit≤ tt)
+mul-released c = place-fits (c .least4 .result) 32 2064 (table-within c) (lit≤ tt)
 
 element-copy-out-released : tie.Need-element-copy-out-released Inv-loop2 μ-loop2 Inv-loop μ-loop
 element-copy-out-released c = table-within c
@@ -196,7 +197,7 @@ least-requires-5 : tie.Need-least-requires-5 Inv-loop2 μ-loop2 Inv-loop μ-loop
 least-requires-5 c κs = search needs
 
 mul-by : tie.Need-mul-by Inv-loop2 μ-loop2 Inv-loop μ-loop
-mul-by c = small-place (c .before .before .before .before .before .before .before .before .before .before .least4 .result) 32 2064 (table-within (c .before .before .before .before .before .before .before .before .before .before)) (lit≤ tt)
+mul-by c = place-fits (c .before .before .before .before .before .before .before .before .before .before .least4 .result) 32 2064 (table-within (c .before .before .before .before .before .before .before .before .before .before)) (lit≤ tt)
 
 element-copy-out-by : tie.Need-element-copy-out-by Inv-loop2 μ-loop2 Inv-loop μ-loop
 element-copy-out-by c = table-within (c .before .before .before .before .before .before .before .before .before .before)
@@ -215,7 +216,7 @@ mix-note-requires c κs =
     )
 
 loop2-less : tie.Need-loop2-less Inv-loop2 μ-loop2 Inv-loop μ-loop
-loop2-less c = let i = c .before .before .before .before .before .before .before .before .before .before .before .before .before .before .before .before .before in less _ (i .before .loop2 .n) (i .loop2-test .taken)
+loop2-less c = let i = c .before .before .before .before .before .before .before .before .before .before .before .before .before .before .before .before .before in less (i .before .loop2 .n) _ (i .loop2-test .taken)
 
 loop2-again : tie.Need-loop2-again Inv-loop2 μ-loop2 Inv-loop μ-loop
 loop2-again c =
@@ -226,7 +227,7 @@ loop2-again c =
     let o = i .before .before .before .before .before .loop in
     let l = i .before .loop2 in
     let t = c .before .before .before .before .before in (
-      more _ (l .n) (i .loop2-test .taken),
+      more (l .n) _ (i .loop2-test .taken),
       at-next (l .n) (l .at) (q .before .samples .result) (l .inv .1) (q .before .samples .ensures .1),
       note-step (s .args .rate) (instrumentsOf a) (a .counts) (i .before .before .before .before .before .before .least2 .result) (a .notes) {from = s .args .from} {covered₀ = o .covered} {all = atNote (s .args .rate) (instrumentsOf a) (a .counts) (i .before .before .before .before .before .before .least2 .result) (a .notes) (o .p) (o .n) (o .n + i .before .before .least3 .result) 0} {out₀ = o .out} (o .p) (l .n) (o .n + i .before .before .least3 .result) (l .at) (note q) noNote (l .covered) (l .out) (q .samples2 .result) _ _ _ refl
           (i .loop2-test .taken) (subst (λ (m : ℕ). o .n + i .before .before .least3 .result ≤ m) (sym (notes-2048 s)) (part-within i)) (q .before .samples .ensures .0) (sounded q) (t .before .before .before .before .larger .ensures)
@@ -236,7 +237,7 @@ loop2-again c =
     )
 
 loop2-less-2 : tie.Need-loop2-less-2 Inv-loop2 μ-loop2 Inv-loop μ-loop
-loop2-less-2 c = let i = c .before .before .before .before .before .before .before .before .before .before .before .before in less _ (i .before .loop2 .n) (i .loop2-test .taken)
+loop2-less-2 c = let i = c .before .before .before .before .before .before .before .before .before .before .before .before in less (i .before .loop2 .n) _ (i .loop2-test .taken)
 
 loop2-again-2 : tie.Need-loop2-again-2 Inv-loop2 μ-loop2 Inv-loop μ-loop
 loop2-again-2 c =
@@ -247,7 +248,7 @@ loop2-again-2 c =
     let o = i .before .before .before .before .before .loop in
     let l = i .before .loop2 in
     let t = c in (
-      more _ (l .n) (i .loop2-test .taken),
+      more (l .n) _ (i .loop2-test .taken),
       at-next (l .n) (l .at) (q .before .samples .result) (l .inv .1) (q .before .samples .ensures .1),
       note-step (s .args .rate) (instrumentsOf a) (a .counts) (i .before .before .before .before .before .before .least2 .result) (a .notes) {from = s .args .from} {covered₀ = o .covered} {all = atNote (s .args .rate) (instrumentsOf a) (a .counts) (i .before .before .before .before .before .before .least2 .result) (a .notes) (o .p) (o .n) (o .n + i .before .before .least3 .result) 0} {out₀ = o .out} (o .p) (l .n) (o .n + i .before .before .least3 .result) (l .at) (note q) noNote (l .covered) (l .out) (q .samples2 .result) _ _ _ refl
           (i .loop2-test .taken) (subst (λ (m : ℕ). o .n + i .before .before .least3 .result ≤ m) (sym (notes-2048 s)) (part-within i)) (q .before .samples .ensures .0) (sounded q) (t .before .before .before .before .larger .ensures)
@@ -260,7 +261,7 @@ add-p : tie.Need-add-p Inv-loop2 μ-loop2 Inv-loop μ-loop
 add-p c = below (c .before .before .before .before .before .loop .p) 16 (parts-within (c .before .before .before .before)) (lit≤ tt)
 
 loop-less : tie.Need-loop-less Inv-loop2 μ-loop2 Inv-loop μ-loop
-loop-less c = less (c .before .before .before .before .before .before .least2 .result) (c .before .before .before .before .before .loop .p) (c .before .before .before .before .loop-test .taken)
+loop-less c = less (c .before .before .before .before .before .loop .p) (c .before .before .before .before .before .before .least2 .result) (c .before .before .before .before .loop-test .taken)
 
 loop-again : tie.Need-loop-again Inv-loop2 μ-loop2 Inv-loop μ-loop
 loop-again c =
@@ -270,8 +271,8 @@ loop-again c =
     let i = c .before .before .before .before in
     let l = c .before .loop2 in
     let m = c .before .before .least3 in
-    let e : l .n ≡ o .n + m .result = meets (o .n + m .result) (l .n) (l .inv .0) (c .loop2-test .left) in (
-      more (i .before .before .least2 .result) (o .p) (i .loop-test .taken),
+    let e : l .n ≡ o .n + m .result = meets (l .n) (o .n + m .result) (l .inv .0) (c .loop2-test .left) in (
+      more (o .p) (i .before .before .least2 .result) (i .loop-test .taken),
       ends-within (l .n) (o .n) (m .result) _ e (m .ensures) (o .inv .1),
       part-done (s .args .rate) (instrumentsOf a) (a .counts) (i .before .before .least2 .result) (a .notes) {from = s .args .from} {covered₀ = 0} {all = placed (s .args .rate) a} {out₀ = s .args .out .now} 16 2048 (a .parts) (counts-16 s) (notes-2048 s)
           (i .before .before .least2 .ensures) (o .p) (o .n) (m .result) (l .n) (l .at) (o .covered) (l .covered) (o .out) (l .out) (i .loop-test .taken) (o .inv .1) (m .ensures) e (o .inv .2) (l .inv .2),
@@ -285,7 +286,7 @@ returns c =
     let s = c .before .before .before .before .before in
     let a = s .args .t1 in
     let l = c .before .loop in
-    let e : l .p ≡ c .before .before .least2 .result = meets (c .before .before .least2 .result) (l .p) (l .inv .0) (c .loop-test .left) in
+    let e : l .p ≡ c .before .before .least2 .result = meets (l .p) (c .before .before .least2 .result) (l .inv .0) (c .loop-test .left) in
     going-end (going-same (parts-end (s .args .rate) (instrumentsOf a) (a .counts) _ (a .notes) (l .p) (l .n) e) (l .inv .2))
 
 pub mix-spec : {M : Type 1} → statement M
