@@ -17,8 +17,8 @@ use Rattle.part.specs.Body.{Book}
 use Rattle.tables.specs.Tables.{withEntry}
 use Rattle.parser.specs.declared.sofar.Sofar.{Sofar}
 use Rattle.meaning.specs.Parts.{NamedPart, notesOf, linePlayed}
-use Rattle.parser.specs.Columns.{partAt, partsFrom, playedIn, playedOutcome, Fits, Came, refusedAt}
-use Rattle.parser.specs.PartSteps.{withNew, calledAs, LineCame}
+use Rattle.parser.specs.Columns.{partAt, partsFrom, Fits, refusedAt}
+use Rattle.parser.proofs.PartStates.{withNew, calledAs, LineCame, playedIn, playedOutcome, Came}
 use Rattle.parser.proofs.NamedParts.{called-length, called-last, same-self, among-most, among-last, named-none, notes-last, fresh, lineOf, line-new, line-full}
 use Rattle.parser.proofs.PartPlaces.{element-set, parts-length, parts-last, parts-same, parts-called, notes-of}
 

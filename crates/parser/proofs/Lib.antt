@@ -14,6 +14,7 @@ pub mod Numbers
 pub mod PartLines
 pub mod PartPlaces
 pub mod PartReads
+pub mod PartStates
 pub mod PartWalk
 pub mod PartWays
 pub mod Parting

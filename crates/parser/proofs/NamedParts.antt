@@ -19,7 +19,7 @@ use Rattle.sheet.proofs.Outcomes.{then-going, then-refused}
 use Rattle.environment.specs.declared.environment.Environment.{Environment}
 use Rattle.part.specs.Body.{Part, Book, Progress, bodyRead}
 use Rattle.meaning.specs.Parts.{NamedPart, Played, notesOf, partNamed, withPartNamed, partOf, linePlayed}
-use Rattle.parser.specs.PartSteps.{calledAs}
+use Rattle.parser.proofs.PartStates.{calledAs}
 
 pub same-self : (s : List ℕ) → same s s ≡ true
 unfolding same

@@ -23,8 +23,9 @@ use Rattle.tables.proofs.MacroLines.{name-ends}
 use Rattle.layout.specs.Regions.{region}
 use Rattle.parser.specs.declared.sofar.Sofar.{Sofar}
 use Rattle.meaning.specs.Parts.{NamedPart, linePlayed}
-use Rattle.parser.specs.Columns.{placeColumn, partAt, partsFrom, playedIn, Fits, Came, refusedAt}
-use Rattle.parser.specs.PartSteps.{withNew, withPart, NamedAt, calledAs, LineCame}
+use Rattle.parser.specs.Columns.{placeColumn, partAt, partsFrom, Fits, refusedAt}
+use Rattle.parser.specs.PartSteps.{NamedAt}
+use Rattle.parser.proofs.PartStates.{withNew, withPart, calledAs, LineCame, playedIn, Came}
 use Rattle.parser.proofs.Playing.{played-going}
 use Rattle.parser.proofs.PartPlaces.{parts-same}
 use Rattle.parser.proofs.Storing.{with-known, with-new}

@@ -21,7 +21,7 @@ use Rattle.layout.proofs.Regions.{region-wide}
 use Rattle.parser.specs.declared.sofar.Sofar.{Sofar}
 use Rattle.meaning.specs.Parts.{NamedPart, notesOf}
 use Rattle.parser.specs.Columns.{partAt, partsFrom}
-use Rattle.parser.specs.PartSteps.{calledAs}
+use Rattle.parser.proofs.PartStates.{calledAs}
 
 -- ---- elements of lists
 

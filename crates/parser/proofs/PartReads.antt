@@ -19,8 +19,9 @@ use Rattle.bank.specs.Bank.{linesFrom}
 use Rattle.parser.specs.declared.sofar.Sofar.{Sofar}
 use Rattle.meaning.specs.Parts.{Played, linePlayed}
 use Rattle.meaning.specs.Sheets.{Read, readOf, bookOf, partRead}
-use Rattle.parser.specs.Columns.{macroColumn, nameColumn, releaseColumn, placeColumn, Tables, tablesOf, partsFrom, playedIn, playedOutcome, readIn, Fits, Tabled, Begins, Goes, Came, passedTo}
-use Rattle.parser.specs.PartSteps.{Passed, bodyAt, BodyCame}
+use Rattle.parser.specs.Columns.{macroColumn, nameColumn, releaseColumn, placeColumn, Tables, tablesOf, partsFrom, readIn, Fits, Tabled, Begins, Goes, passedTo}
+use Rattle.parser.specs.PartSteps.{bodyAt, BodyCame}
+use Rattle.parser.proofs.PartStates.{Passed, playedIn, playedOutcome, Came}
 use Rattle.parser.proofs.Pieces.{region-front}
 use Rattle.parser.proofs.Going.{lined, goes-as, goes-ended, goes-on, fits-passed, tabled-as}
 

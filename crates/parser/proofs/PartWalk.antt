@@ -23,7 +23,8 @@ use Rattle.meaning.specs.Sheets.{partLine, kindOf, takenBy, lineRead}
 use Rattle.parser.specs.declared.parts.Parted.{Parted}
 use Rattle.parser.specs.declared.sofar.Sofar.{Sofar}
 use Rattle.parser.specs.Columns.{Tables, macroColumn, nameColumn, releaseColumn, placeColumn, tablesIn, readIn, Fits, Tabled, Begins, Goes, refusedAt}
-use Rattle.parser.specs.PartSteps.{stateOf, stateFrom, storedAs, withPart, OfPart, NamedAt, Passed, ReadyAt, bodyAt, BodyCame}
+use Rattle.parser.specs.PartSteps.{stateFrom, OfPart, NamedAt, ReadyAt, bodyAt, BodyCame}
+use Rattle.parser.proofs.PartStates.{stateOf, storedAs, withPart, Passed}
 use Rattle.parser.proofs.Going.{lined}
 use Rattle.parser.proofs.LineKinds.{part-stepped}
 use Rattle.parser.proofs.PartWays.{Gone, way-full, way-asks, way-played}

@@ -14,8 +14,9 @@ use Rattle.part.specs.Body.{Book}
 use Rattle.part.specs.Columns.{bookIn}
 use Rattle.meaning.specs.Sheets.{partRead}
 use Rattle.parser.specs.declared.sofar.Sofar.{Sofar}
-use Rattle.parser.specs.Columns.{macroColumn, nameColumn, sizeColumn, releaseColumn, placeColumn, tablesIn, readIn, Fits, Tabled, Begins, Goes, Came, refusedAt, passedTo}
-use Rattle.parser.specs.PartSteps.{withPart, NamedAt, Passed, LinePassed}
+use Rattle.parser.specs.Columns.{macroColumn, nameColumn, sizeColumn, releaseColumn, placeColumn, tablesIn, readIn, Fits, Tabled, Begins, Goes, refusedAt, passedTo}
+use Rattle.parser.specs.PartSteps.{NamedAt}
+use Rattle.parser.proofs.PartStates.{withPart, Passed, LinePassed, Came}
 use Rattle.parser.proofs.Going.{lined, line-small}
 use Rattle.parser.proofs.PartLines.{StepCame, step-bare, step-full, step-known}
 use Rattle.parser.proofs.PartReads.{part-passed}

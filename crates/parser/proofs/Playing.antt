@@ -26,8 +26,9 @@ use Rattle.layout.specs.Layout.{notesAt, notesFrom}
 use Rattle.layout.proofs.Regions.{lent, back, lent-region, region-wide, back-here, back-beside, back-length}
 use Rattle.parser.specs.declared.sofar.Sofar.{Sofar}
 use Rattle.meaning.specs.Parts.{NamedPart, Played, notesOf, withPartNamed, linePlayed}
-use Rattle.parser.specs.Columns.{placeColumn, partAt, partsFrom, playedIn, playedOutcome, Fits, Came, refusedAt}
-use Rattle.parser.specs.PartSteps.{stateOf, keptWith, storedAs, Beside, BodyCame, ReadyAt, bodyAt, calledAs, LineCame}
+use Rattle.parser.specs.Columns.{placeColumn, partAt, partsFrom, Fits, refusedAt}
+use Rattle.parser.specs.PartSteps.{Beside, BodyCame, ReadyAt, bodyAt}
+use Rattle.parser.proofs.PartStates.{stateOf, keptWith, storedAs, calledAs, LineCame, playedIn, playedOutcome, Came}
 use Rattle.parser.proofs.Bodies.{Others, body-numbered, body-others}
 use Rattle.parser.proofs.NamedParts.{named-there, with-there, notes-set, begun, ended, lineOf, line-known}
 use Rattle.parser.proofs.Pieces.{after-lent}

@@ -16,7 +16,8 @@ use Rattle.part.specs.Body.{Book}
 use Rattle.tables.specs.Tables.{withEntry}
 use Rattle.parser.specs.declared.sofar.Sofar.{Sofar}
 use Rattle.parser.specs.Columns.{placeColumn, Fits, refusedAt, passedTo}
-use Rattle.parser.specs.PartSteps.{stateOf, stateFrom, keptWith, storedAs, withNew, withPart, NamedAt, Passed, BodyCame, bodyAt, LinePassed}
+use Rattle.parser.specs.PartSteps.{stateFrom, NamedAt, BodyCame, bodyAt}
+use Rattle.parser.proofs.PartStates.{stateOf, keptWith, storedAs, withNew, withPart, Passed, LinePassed}
 use Rattle.parser.proofs.Pieces.{region-before, region-set}
 use Rattle.parser.proofs.Playing.{own-few, stored-kept, stored-refused, state-is, line-whole}
 

@@ -24,7 +24,7 @@ use Rattle.layout.specs.Regions.{region}
 use Rattle.bank.specs.Bank.{linesFrom}
 use Rattle.layout.specs.Layout.{notesAt, notesFrom}
 use Rattle.parser.specs.declared.sofar.Sofar.{Sofar}
-use Rattle.meaning.specs.Parts.{NamedPart, Played}
+use Rattle.meaning.specs.Parts.{NamedPart}
 use Rattle.meaning.specs.Sheets.{Read, readOf}
 
 -- ---- parts
@@ -50,16 +50,6 @@ module _ (s places : List ℕ) (r : Sofar) (fs : List Float) (is ls : List ℕ) 
   partsFrom k zero = []
   partsFrom k (suc n) = partAt k ∷ partsFrom (k + 1) n
 
-  -- all parts, and the steps
-  unfoldable pub playedIn : Played
-  unfolding partsFrom
-  playedIn = record { parts = partsFrom 0 (r .parts); steps = r .steps }
-
-  -- what has come of a part's line
-  unfoldable pub playedOutcome : Outcome Played
-  unfolding playedIn
-  playedOutcome = elim (r .refusal) [ zero ↦ going playedIn | suc n ↦ refused (suc n) (r .line) ]
-
 -- the counts are in range, and the columns have the room for all parts
 pub record Fits (places : List ℕ) (r : Sofar) (fs : List Float) (is ls : List ℕ) : Type 0 where
   pub few : r .parts ≤ partsMost
@@ -76,16 +66,6 @@ pub record Fits (places : List ℕ) (r : Sofar) (fs : List Float) (is ls : List 
   pub floats-length : length fs ≡ 3 * notesMost * partsMost
   pub bytes-length : length is ≡ notesMost * partsMost
   pub loops-length : length ls ≡ 2 * loopsMost * partsMost + 2 * partsMost
-
--- what a part's line makes of a reading: this has come of it, and nothing but the parts has changed
-pub record Came (o : Outcome Played) (s places : List ℕ) (r q : Sofar) (fs : List Float) (is ls : List ℕ) : Type 0 where
-  pub means : playedOutcome s places q fs is ls ≡ o
-  pub fits : q .refusal ≡ 0 → Fits places q fs is ls
-  pub start : q .start ≡ r .start
-  pub macros : q .macros ≡ r .macros
-  pub instruments : q .instruments ≡ r .instruments
-  pub at : q .at ≡ r .at
-  pub line : q .refusal ≡ 0 → q .line ≡ r .line
 
 -- ---- the whole
 
