@@ -12,17 +12,19 @@ mod table;
 use std::hint::black_box;
 use std::time::{Duration, Instant};
 
+// The mode of the library's call; the Rust has no other.
+const PLAIN: u32 = 0;
 const ROUNDS: usize = 20;
 const ENOUGH: Duration = Duration::from_millis(150);
 
 extern "C" {
-    fn cue_samples(source: *const u8, len: usize, refusal: *mut u32, line: *mut usize) -> usize;
+    fn cue_samples(source: *const u8, len: usize, mode: u32, refusal: *mut u32, line: *mut usize) -> usize;
 }
 
 fn samples(text: &str) -> usize {
     let (mut refusal, mut line) = (0, 0);
     // SAFETY: the text is lent for the call, and the two numbers are this function's.
-    let count = unsafe { cue_samples(text.as_ptr(), text.len(), &mut refusal, &mut line) };
+    let count = unsafe { cue_samples(text.as_ptr(), text.len(), PLAIN, &mut refusal, &mut line) };
     assert_eq!((refusal, line), (0, 0), "a sheet of the benchmark is accepted");
     count
 }

@@ -1,6 +1,6 @@
 /* Answers the requests of tools/station/compare.py by the library, through include/cue.h. Standard input has requests one after the other,
- * each a line `CALL SOURCE START ROOM PLACE FILL` of numbers, CALL one of 0 samples, 1 wav, 2 header, 3 window, and behind it SOURCE bytes of
- * text. The answer is a line `COUNT REFUSAL LINE` and the ROOM bytes of the buffer, which were all FILL before the call. The bytes around the
+ * each a line `CALL SOURCE MODE START ROOM PLACE FILL` of numbers, CALL one of 0 samples, 1 wav, 2 header, 3 window, and behind it SOURCE bytes
+ * of text. The answer is a line `COUNT REFUSAL LINE` and the ROOM bytes of the buffer, which were all FILL before the call. The bytes around the
  * buffer are watched too. An empty text or buffer goes as NULL here, and as the address of a byte in ask.rs. */
 #include <stdio.h>
 #include <stdlib.h>
@@ -12,6 +12,7 @@ enum { EDGE = 64, WATCHED = 0x5a };
 
 typedef struct {
   size_t call, len, start, room, place;
+  unsigned long mode;
   unsigned fill;
 } Request;
 
@@ -28,10 +29,10 @@ static uint8_t *bytes(size_t n) {
 
 static size_t called(const Request *r, const uint8_t *text, uint8_t *buffer, uint32_t *refusal, size_t *line) {
   switch (r->call) {
-    case 0: return cue_samples(text, r->len, refusal, line);
-    case 1: return cue_wav(text, r->len, buffer, r->room, refusal, line);
-    case 2: return cue_header(text, r->len, buffer, r->room, refusal, line);
-    case 3: return cue_window(text, r->len, r->start, buffer, r->room, r->place, refusal, line);
+    case 0: return cue_samples(text, r->len, (uint32_t)r->mode, refusal, line);
+    case 1: return cue_wav(text, r->len, (uint32_t)r->mode, buffer, r->room, refusal, line);
+    case 2: return cue_header(text, r->len, (uint32_t)r->mode, buffer, r->room, refusal, line);
+    case 3: return cue_window(text, r->len, (uint32_t)r->mode, r->start, buffer, r->room, r->place, refusal, line);
   }
   stop("no such call");
   return 0;
@@ -53,14 +54,14 @@ static void answer(const Request *r, const uint8_t *text) {
 
 int main(void) {
   Request r;
-  while (scanf("%zu %zu %zu %zu %zu %u", &r.call, &r.len, &r.start, &r.room, &r.place, &r.fill) == 6) {
+  while (scanf("%zu %zu %lu %zu %zu %zu %u", &r.call, &r.len, &r.mode, &r.start, &r.room, &r.place, &r.fill) == 7) {
     uint8_t *text = r.len ? bytes(r.len) : NULL;
     getchar();
     if (r.len && fread(text, 1, r.len, stdin) != r.len) stop("a text ends too early");
     answer(&r, text);
     free(text);
   }
-  if (!feof(stdin)) stop("a request is not six numbers");
+  if (!feof(stdin)) stop("a request is not seven numbers");
   if (fflush(stdout)) stop("the answers cannot be written");
   return 0;
 }

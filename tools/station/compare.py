@@ -4,7 +4,7 @@
 
 A C program and a Rust program that link the library make the calls of include/cue.h for the sheets of examples/, for the stored sheets of
 oracle/stored and for texts at the edges; what each call answers, and every byte of the buffer it is lent, is compared with what document 01
-says of the bytes that `cue` writes for the same text. Of a sheet whose file is longer than FRONT bytes only the first are looked at. The
+says of the bytes that `cue` writes for the same text, in plain mode, and of some texts in strict mode too, beside `cue strict`. Of a sheet whose file is longer than FRONT bytes only the first are looked at. The
 program in the header file is built and run too, and its functions are those of the archive. It prints a line with the counts, or one that
 says what differs, with status 1. Where no x86-64 program can be linked, which is so on another processor without Debian's cross compiler, it
 says that none was.
@@ -19,7 +19,7 @@ from itertools import accumulate, dropwhile
 
 import builds
 from builds import ROOT, Broken
-from calls import NAMES, Refused, Sound, answer, asked_of, said
+from calls import ALSO_STRICT, NAMES, PLAIN, STRICT, Refused, Sound, answer, asked_of, said
 
 sys.path.insert(1, str(ROOT / "oracle"))
 from harness import escape, unescape  # noqa: E402
@@ -27,8 +27,10 @@ from harness import escape, unescape  # noqa: E402
 # How much of a file is looked at.
 FRONT = 44 + 2 * 250_000
 # The least that must be compared, of each kind: about four fifths of what is there, and every refusal number that a call can give.
-LEAST = {"calls": 12_000, "accepted": 300, "refused": 360, "numbers": 29}
+LEAST = {"calls": 15_400, "accepted": 375, "refused": 475, "numbers": 30}
 BATCH = 40
+# One stored sheet of so many is read in strict mode too.
+STRICTLY = 5
 
 
 def stored():
@@ -52,16 +54,19 @@ def edges():
         b"p t1000 l128 c",
         b"p t120 a",
         b"a v1 [cdefgab]4\nb v1 r [cdefgab]4",
+        b"@i\n1 1 0 0 0,7 0\n\np t1000 l128 @i a",
+        b"#tempo 1000bpm\np l128 a",
+        b"#key f+x\np t1000 l128 f",
         padded.ljust(32_768, b"x"),
         padded.ljust(32_769, b"x"),
         padded.ljust(32_768, b"x")[:-1] + b"\xff",
     ]
 
 
-def known(text):
-    """What the program `cue` says of a text: a refusal, or the first bytes of the file. It ends by itself where nobody takes more."""
+def known(text, mode):
+    """What the program `cue` says of a text in a mode: a refusal, or the first bytes of the file. It ends by itself where nobody takes more."""
     pipe = subprocess.PIPE
-    with subprocess.Popen([ROOT / "tools" / "run", "cue"], stdin=pipe, stdout=pipe, stderr=pipe) as program:
+    with subprocess.Popen([ROOT / "tools" / "run", "cue", *(["strict"] if mode else [])], stdin=pipe, stdout=pipe, stderr=pipe) as program:
         with suppress(BrokenPipeError), program.stdin as asked:
             asked.write(text)
         front = program.stdout.read(FRONT)
@@ -91,7 +96,7 @@ def differing(programs, cases):
     """What a program answers otherwise to any of the texts, in words, and the requests that were made."""
     made = []
     for begin in range(0, len(cases), BATCH):
-        batch = [(request, what) for text, what, every in cases[begin : begin + BATCH] for request in asked_of(text, what, every)]
+        batch = [(request, what) for (text, mode, every), what in cases[begin : begin + BATCH] for request in asked_of(text, mode, what, every)]
         for name, program in programs:
             if wrong := first_difference(name, program, batch):
                 return wrong, made
@@ -101,7 +106,7 @@ def differing(programs, cases):
 
 def tally(cases, made):
     """How much was compared, by kind."""
-    sounds = [what for _, what, _ in cases if isinstance(what, Sound)]
+    sounds = [what for _, what in cases if isinstance(what, Sound)]
     numbers = {said(request, what)[1] for request, what in made} - {0}
     long = sum(not sound.is_whole() for sound in sounds)
     return Counter(calls=len(made), accepted=len(sounds), refused=len(cases) - len(sounds), long=long, numbers=len(numbers))
@@ -115,7 +120,7 @@ def compare_names():
 
 def compare_example():
     """The header file's program writes what `cue` does."""
-    wanted = known(b"p t120 a")
+    wanted = known(b"p t120 a", PLAIN)
     if builds.run(builds.build_c(builds.example(), "example"), b"") != wanted.front:
         raise Broken("the program in the header file writes another file than cue")
 
@@ -130,11 +135,12 @@ def asking_programs():
 
 
 def cases_known():
-    """Each text with what `cue` says of it, and whether every kind of room is asked for."""
-    texts = [(text, True) for text in edges()] + [(text, False) for text in stored()]
+    """Each text with its mode, whether every kind of room is asked for, and what `cue` says of it."""
+    asked = [(text, mode, mode in (PLAIN, STRICT)) for text in edges() for mode in (PLAIN, STRICT, *ALSO_STRICT)]
+    asked += [(text, PLAIN, False) for text in stored()] + [(text, STRICT, False) for text in stored()[::STRICTLY]]
     with ThreadPoolExecutor(2) as pool:
-        answers = list(pool.map(known, [text for text, _ in texts]))
-    return [(text, what, every) for (text, every), what in zip(texts, answers)]
+        answers = list(pool.map(lambda one: known(*one[:2]), asked))
+    return list(zip(asked, answers))
 
 
 def compare_calls():

@@ -13,6 +13,7 @@ use lines::names::least;
 use parser::reader::read;
 use sheet::answer::Answer;
 use sheet::sheet::Sheet;
+use strict::mode::Mode;
 use windows::window::write_window;
 
 // An answer as two numbers: the refusal, 0 for none, and the count.
@@ -87,7 +88,7 @@ fn bytes(sheet: Sheet, asked: Request) -> bool {
 
 // Reads the sheet, does what is asked, and says whether the answer was taken.
 pub fn to(asked: Request, source: &[u8]) -> bool {
-    let reading = read(source);
+    let reading = read(source, Mode::Plain);
     let sheet = damage::to(reading.sheet, asked);
     if asked.kind == 0 {
         return samples(sheet, asked);

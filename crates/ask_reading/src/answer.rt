@@ -10,6 +10,7 @@ use libc::STDOUT_FILENO;
 use lines::names::least;
 use meaning::reading::Reading;
 use parser::reader::read;
+use strict::mode::Mode;
 
 // Room for any answer: five numbers, 16 counts, 2,048 notes and 32 instruments of 64 commands take 98,644 bytes.
 fn room() -> [u8; 131072]
@@ -40,10 +41,10 @@ fn within(end: usize, out: &[u8]) -> usize
     least(end, out.len())
 }
 
-// Reads a sheet, writes the answer, and says whether all was taken.
-pub fn to(source: &[u8]) -> bool {
+// Reads a sheet in a mode, writes the answer, and says whether all was taken.
+pub fn to(source: &[u8], mode: Mode) -> bool {
     let mut out = room();
-    let end = numbers(&mut out, read(source));
+    let end = numbers(&mut out, read(source, mode));
     let n = within(end, &out);
     io::write_all(STDOUT_FILENO, &out[..n])
 }

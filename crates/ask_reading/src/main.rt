@@ -13,6 +13,7 @@ ghost use Rattle.io.specs.Counts.{Counts};
 use fields::word::word;
 use libc::STDIN_FILENO;
 use lines::names::least;
+use strict::mode::Mode;
 
 // Reads the first n bytes, or as many as there are, and says how many.
 fn read_first(bytes: &mut [u8], n: usize) -> usize
@@ -24,22 +25,32 @@ fn read_first(bytes: &mut [u8], n: usize) -> usize
 
 // How many bytes of a sheet follow a head: 40,000 at the most.
 fn follow(head: &[u8]) -> usize
-    requires { ⌜ length (now head) ≡ 4 ⌝ }
+    requires { ⌜ length (now head) ≡ 8 ⌝ }
     ensures { λ n. ⌜ n ≤ 40000 ⌝ }
 {
     least(word(head, 0) as usize, 40000)
 }
 
+// The mode that a head asks for.
+fn mode(head: &[u8]) -> Mode
+    requires { ⌜ length (now head) ≡ 8 ⌝ }
+{
+    if word(head, 4) == 0 {
+        return Mode::Plain;
+    }
+    Mode::Strict
+}
+
 // Answers one request, if a whole head is there, and says whether there may be more.
 fn answer_next() -> bool {
-    let mut head = [0u8; 4];
-    if io::read_full(STDIN_FILENO, &mut head) < 4 {
+    let mut head = [0u8; 8];
+    if io::read_full(STDIN_FILENO, &mut head) < 8 {
         return false;
     }
     let mut bytes = io::large_buffer();
     let n = follow(&head);
     let got = read_first(&mut bytes, n);
-    answer::to(&bytes[..got])
+    answer::to(&bytes[..got], mode(&head))
 }
 
 // A proved loop has to end, and nothing says that the input does. So the loop counts its turns down,

@@ -26,7 +26,8 @@ use Rattle.instrument.specs.declared.operator.Operator.{Operator}
 use Rattle.instrument.specs.Lines.{Line, indentRefusal}
 use Rattle.sheet.specs.Refusals.{Outcome, going, refused, _>>=_, _>>_}
 use Rattle.sheet.proofs.Holds.{Holds, holds-of}
-use Rattle.sheet.proofs.Outcomes.{then-going, then-refused, then-same, Numbered, numbered-going, numbered-refused, numbered-of, numbered-unless, numbered-then}
+use Rattle.sheet.proofs.Outcomes.{then-going, then-refused, then-same, Numbered, numbered-going, numbered-refused, numbered-of, numbered-unless, numbered-if, numbered-then}
+use Rattle.strict.specs.declared.mode.Mode.{Mode}
 use Rattle.blocks.specs.declared.block.Block.{Block}
 use Rattle.operators.specs.OperatorLines.{ends, operatorLines, indentOf, indented, readable, numbersRead, present, feedbackRead, operatorRead, operatorsRead}
 use Rattle.operators.specs.Answers.{indentAbove}
@@ -50,27 +51,30 @@ module _ (line : ℕ) where
   readable-numbered Unreadable = numbered-refused _ 18 line (omega arith)
   readable-numbered TooLong = numbered-refused _ 19 line (omega arith)
 
-  numbers-numbered : (ts : List (List ℕ)) → Numbered (numbersRead line ts)
-  unfolding numbersRead
-  numbers-numbered [] = numbered-going []
-  numbers-numbered (t ∷ ts) =
-      numbered-then _ _ (readable-numbered (decimalAt t 0)) (λ x. numbered-then _ _ (numbers-numbered ts) (λ xs. numbered-going (x ∷ xs)))
-
   present-numbered : (i : Int) → Numbered (present line i)
   unfolding present
   present-numbered (Number v next) = numbered-going v
   present-numbered Absent = numbered-refused _ 18 line (omega arith)
 
-  feedback-numbered : (ts : List (List ℕ)) → Numbered (feedbackRead line ts)
+module _ (mode : Mode) (line : ℕ) where
+  numbers-numbered : (ts : List (List ℕ)) → Numbered (numbersRead mode line ts)
+  unfolding numbersRead
+  numbers-numbered [] = numbered-going []
+  numbers-numbered (t ∷ ts) =
+      numbered-then _ _ (readable-numbered line (decimalAt t 0))
+      (λ x. numbered-if _ _ _ _ (omega arith) (numbered-then _ _ (numbers-numbered ts) (λ xs. numbered-going (x ∷ xs))))
+
+  feedback-numbered : (ts : List (List ℕ)) → Numbered (feedbackRead mode line ts)
   unfolding feedbackRead
   feedback-numbered [] = numbered-going 0
   feedback-numbered (t ∷ ts) =
-      numbered-then _ _ (present-numbered (intAt valueMost t 0)) (λ v. numbered-unless _ _ _ _ (omega arith) (numbered-going v))
+      numbered-then _ _ (present-numbered line (intAt valueMost t 0))
+      (λ v. numbered-unless _ _ _ _ (omega arith) (numbered-if _ _ _ _ (omega arith) (numbered-going v)))
 
-  pub line-numbered : (before : Option ℕ) (above : ℕ) (l : List ℕ) → Numbered (operatorRead line before above l)
+  pub line-numbered : (before : Option ℕ) (above : ℕ) (l : List ℕ) → Numbered (operatorRead mode line before above l)
   unfolding operatorRead
   line-numbered before above l =
-      indented-numbered before (indentOf l) _
+      indented-numbered line before (indentOf l) _
       (numbered-unless _ _ _ _ (omega arith)
       (numbered-then _ _ (numbers-numbered (take 6 (tokensOf l)))
       (λ xs. numbered-then _ _ (feedback-numbered (drop 6 (tokensOf l))) (λ f. numbered-unless _ _ _ _ (omega arith) (numbered-going _)))))
@@ -95,7 +99,7 @@ one-behind xs ys o (refused n l) e = refl
 -- ---- the walk
 
 -- at `place` so many lines from `at` on are read, the last of them with the indent `before`, and stand in the columns, which were fs₀ and ss₀
-pub record Reading (source : List ℕ) (at : ℕ) (fs₀ : List Float) (ss₀ : List ℕ) (fs : List Float) (ss : List ℕ) (place count before : ℕ) : Type 0 where
+pub record Reading (mode : Mode) (source : List ℕ) (at : ℕ) (fs₀ : List Float) (ss₀ : List ℕ) (fs : List Float) (ss : List ℕ) (place count before : ℕ) : Type 0 where
   pub wide : 192 ≤ length fs₀
   pub high : 64 ≤ length ss₀
   pub floats : length fs ≡ length fs₀
@@ -106,12 +110,12 @@ pub record Reading (source : List ℕ) (at : ℕ) (fs₀ : List Float) (ss₀ : 
   pub behind : place ≡ behindLines count source at
   pub lines : linesOf (drop place source) ≡ drop count (linesOf (drop at source))
   pub means : (line : ℕ)
-      → operatorsRead none line 0 (operatorLines (linesOf (drop at source)))
-      ≡ _>>=_ (operatorsRead (indentAbove count before) (line + count) count (operatorLines (linesOf (drop place source)))) (λ os. going (linesIn count fs ss ++ os))
+      → operatorsRead mode none line 0 (operatorLines (linesOf (drop at source)))
+      ≡ _>>=_ (operatorsRead mode (indentAbove count before) (line + count) count (operatorLines (linesOf (drop place source)))) (λ os. going (linesIn count fs ss ++ os))
 
-pub reading-start : (source : List ℕ) (at : ℕ) (fs : List Float) (ss : List ℕ) → 192 ≤ length fs → 64 ≤ length ss → Reading source at fs ss fs ss at 0 0
+pub reading-start : (mode : Mode) (source : List ℕ) (at : ℕ) (fs : List Float) (ss : List ℕ) → 192 ≤ length fs → 64 ≤ length ss → Reading mode source at fs ss fs ss at 0 0
 unfolding indentAbove linesIn behindLines
-reading-start source at fs ss h k =
+reading-start mode source at fs ss h k =
     record {
       behind = refl;
       wide = h;
@@ -124,51 +128,51 @@ reading-start source at fs ss h k =
       lines = refl;
       means = λ line.
           sym (then-same _)
-          ∙ ap (λ (n : ℕ). _>>=_ (operatorsRead none n 0 (operatorLines (linesOf (drop at source)))) (λ os. going os)) (sym (add-zero line));
+          ∙ ap (λ (n : ℕ). _>>=_ (operatorsRead mode none n 0 (operatorLines (linesOf (drop at source)))) (λ os. going os)) (sym (add-zero line));
     }
 
 -- what the reader promises of an answer
-abbrev Answered : List ℕ → ℕ → List Float → List ℕ → List Float → List ℕ → Block → Type 0
-Answered source at fs₀ ss₀ fs ss b =
-    ((line : ℕ) → blockOutcome line b fs ss ≡ blockRead line (drop at source) (length fs₀) (length ss₀))
+abbrev Answered : Mode → List ℕ → ℕ → List Float → List ℕ → List Float → List ℕ → Block → Type 0
+Answered mode source at fs₀ ss₀ fs ss b =
+    ((line : ℕ) → blockOutcome line b fs ss ≡ blockRead mode line (drop at source) (length fs₀) (length ss₀))
     × ((b .next ≡ behindLines (b .count) source at)
     × ((b .refusal ≡ 0 → linesOf (drop (b .next) source) ≡ drop (b .count) (linesOf (drop at source)))
     × (((at ≤ b .next) × (at ≤ length source → b .next ≤ length source)) × (b .count ≤ 32))))
 
-module _ (source : List ℕ) (at : ℕ) (fs : List Float) (ss : List ℕ) where
-  answered-narrow : (leb 192 (length fs) && leb 64 (length ss)) ≡ false → Answered source at fs ss fs ss (record { count = 0; next = at; refusal = 21 })
+module _ (mode : Mode) (source : List ℕ) (at : ℕ) (fs : List Float) (ss : List ℕ) where
+  answered-narrow : (leb 192 (length fs) && leb 64 (length ss)) ≡ false → Answered mode source at fs ss fs ss (record { count = 0; next = at; refusal = 21 })
   unfolding blockOutcome blockRead behindLines
   answered-narrow e =
       (λ line. ap (refused 21) (add-zero line) ∙ sym (rw (e, blockRead)), (refl, ((λ z. absurd (omega (arith, z))), ((omega arith, λ i. i), omega arith))))
 
-  pub narrow-numbers : length fs < 192 → Answered source at fs ss fs ss (record { count = 0; next = at; refusal = 21 })
+  pub narrow-numbers : length fs < 192 → Answered mode source at fs ss fs ss (record { count = 0; next = at; refusal = 21 })
   narrow-numbers h = answered-narrow (rw (lt-leb 192 (length fs) h))
 
-  pub narrow-shape : 192 ≤ length fs → length ss < 64 → Answered source at fs ss fs ss (record { count = 0; next = at; refusal = 21 })
+  pub narrow-shape : 192 ≤ length fs → length ss < 64 → Answered mode source at fs ss fs ss (record { count = 0; next = at; refusal = 21 })
   narrow-shape h k = answered-narrow (rw (le-leb 192 (length fs) h, lt-leb 64 (length ss) k))
 
-module _ (source : List ℕ) (at : ℕ) (fs₀ : List Float) (ss₀ : List ℕ) (fs : List Float) (ss : List ℕ) (place count before : ℕ)
-    (r : Reading source at fs₀ ss₀ fs ss place count before) where
+module _ (mode : Mode) (source : List ℕ) (at : ℕ) (fs₀ : List Float) (ss₀ : List ℕ) (fs : List Float) (ss : List ℕ) (place count before : ℕ)
+    (r : Reading mode source at fs₀ ss₀ fs ss place count before) where
   -- the columns have room, so the lines are all that counts
   block-means : (line : ℕ)
-      → blockRead line (drop at source) (length fs₀) (length ss₀)
-      ≡ _>>=_ (operatorsRead (indentAbove count before) (line + count) count (operatorLines (linesOf (drop place source)))) (λ os. going (linesIn count fs ss ++ os))
+      → blockRead mode line (drop at source) (length fs₀) (length ss₀)
+      ≡ _>>=_ (operatorsRead mode (indentAbove count before) (line + count) count (operatorLines (linesOf (drop place source)))) (λ os. going (linesIn count fs ss ++ os))
   unfolding blockRead
   block-means line = rw (le-leb 192 (length fs₀) (r .wide), le-leb 64 (length ss₀) (r .high), blockRead) (r .means line)
 
   -- no operator line follows
-  answered-done : operatorLines (linesOf (drop place source)) ≡ [] → Answered source at fs₀ ss₀ fs ss (record { count = count; next = place; refusal = 0 })
+  answered-done : operatorLines (linesOf (drop place source)) ≡ [] → Answered mode source at fs₀ ss₀ fs ss (record { count = count; next = place; refusal = 0 })
   unfolding blockOutcome operatorsRead
   answered-done e = (
     λ line.
         sym
         (block-means line
-        ∙ then-going [] _ _ (ap (operatorsRead (indentAbove count before) (line + count) count) e)
+        ∙ then-going [] _ _ (ap (operatorsRead mode (indentAbove count before) (line + count) count) e)
         ∙ ap going (append-nil (linesIn count fs ss))),
     (r .behind, ((λ z. r .lines), ((r .onward, r .inside), r .few))),
   )
 
-  pub answered-end : length source ≤ place → Answered source at fs₀ ss₀ fs ss (record { count = count; next = place; refusal = 0 })
+  pub answered-end : length source ≤ place → Answered mode source at fs₀ ss₀ fs ss (record { count = count; next = place; refusal = 0 })
   unfolding linesOf operatorLines
   answered-end h = answered-done (rw (drop-of-length-le source h))
 
@@ -180,7 +184,7 @@ module _ (source : List ℕ) (at : ℕ) (fs₀ : List Float) (ss₀ : List ℕ) 
     below : linesOf (drop place source) ≡ text ∷ linesOf (drop next source)
     below = l .lines ∙ ap (λ (t : List ℕ). t ∷ linesOf (drop next source)) (sym (l .line))
 
-    pub answered-other : ends text ≡ true → Answered source at fs₀ ss₀ fs ss (record { count = count; next = place; refusal = 0 })
+    pub answered-other : ends text ≡ true → Answered mode source at fs₀ ss₀ fs ss (record { count = count; next = place; refusal = 0 })
     answered-other e = answered-done (ap operatorLines below ∙ lines-ended text _ e)
 
     -- an operator line
@@ -188,25 +192,25 @@ module _ (source : List ℕ) (at : ℕ) (fs₀ : List Float) (ss₀ : List ℕ) 
       here : operatorLines (linesOf (drop place source)) ≡ text ∷ operatorLines (linesOf (drop next source))
       here = ap operatorLines below ∙ lines-go-on text _ e
 
-      pub answered-refused : (n : ℕ) → ((line : ℕ) → refused n line ≡ operatorRead line (indentAbove count before) count text)
-          → Answered source at fs₀ ss₀ fs ss (record { count = count; next = place; refusal = n })
+      pub answered-refused : (n : ℕ) → ((line : ℕ) → refused n line ≡ operatorRead mode line (indentAbove count before) count text)
+          → Answered mode source at fs₀ ss₀ fs ss (record { count = count; next = place; refusal = n })
       unfolding blockOutcome operatorsRead
-      answered-refused zero q = absurd (omega (arith, numbered-of _ 0 0 (q 0) (line-numbered 0 (indentAbove count before) count text)))
+      answered-refused zero q = absurd (omega (arith, numbered-of _ 0 0 (q 0) (line-numbered mode 0 (indentAbove count before) count text)))
       answered-refused (suc n) q = (
         λ line.
             sym
             (block-means line
             ∙ then-refused (suc n) (line + count) _ _
-            (ap (operatorsRead (indentAbove count before) (line + count) count) here ∙ then-refused (suc n) (line + count) _ _ (sym (q (line + count))))),
+            (ap (operatorsRead mode (indentAbove count before) (line + count) count) here ∙ then-refused (suc n) (line + count) _ _ (sym (q (line + count))))),
         (r .behind, ((λ z. absurd (omega (arith, z))), ((r .onward, r .inside), r .few))),
       )
 
       module _ (tabs : ℕ) (o : Operator)
-          (q : (line : ℕ) → going (record { indent = tabs; op = o }) ≡ operatorRead line (indentAbove count before) count text) where
+          (q : (line : ℕ) → going (record { indent = tabs; op = o }) ≡ operatorRead mode line (indentAbove count before) count text) where
         pub line-room : count < 32
         line-room =
             holds-of (Fits (indentAbove count before) count) _
-            (subst (Holds (Fits (indentAbove count before) count)) (sym (q 0)) (one-fits 0 (indentAbove count before) count text)) .room
+            (subst (Holds (Fits (indentAbove count before) count)) (sym (q 0)) (one-fits mode 0 (indentAbove count before) count text)) .room
 
         next-above : some tabs ≡ indentAbove (count + 1) tabs
         unfolding indentAbove
@@ -214,7 +218,7 @@ module _ (source : List ℕ) (at : ℕ) (fs₀ : List Float) (ss₀ : List ℕ) 
 
         pub reading-more : (gs : List Float) (ts : List ℕ) → length gs ≡ length fs → length ts ≡ length ss
             → linesIn (count + 1) gs ts ≡ linesIn count fs ss ++ (record { indent = tabs; op = o } ∷ [])
-            → Reading source at fs₀ ss₀ gs ts next (count + 1) tabs
+            → Reading mode source at fs₀ ss₀ gs ts next (count + 1) tabs
         unfolding operatorsRead behindLines
         reading-more gs ts a b k =
             record {
@@ -235,8 +239,8 @@ module _ (source : List ℕ) (at : ℕ) (fs₀ : List Float) (ss₀ : List ℕ) 
               means = λ line.
                   r .means line
                   ∙ ap (λ (m : Outcome (List Line)). _>>=_ m (λ os. going (linesIn count fs ss ++ os)))
-                  (ap (operatorsRead (indentAbove count before) (line + count) count) here ∙ then-going _ _ _ (sym (q (line + count))))
+                  (ap (operatorsRead mode (indentAbove count before) (line + count) count) here ∙ then-going _ _ _ (sym (q (line + count))))
                   ∙ one-behind (linesIn count fs ss) (linesIn (count + 1) gs ts) (record { indent = tabs; op = o }) _ k
-                  ∙ ap₂ (λ (p : Option ℕ) (n : ℕ). _>>=_ (operatorsRead p n (count + 1) (operatorLines (linesOf (drop next source)))) (λ os. going (linesIn (count + 1) gs ts ++ os)))
+                  ∙ ap₂ (λ (p : Option ℕ) (n : ℕ). _>>=_ (operatorsRead mode p n (count + 1) (operatorLines (linesOf (drop next source)))) (λ os. going (linesIn (count + 1) gs ts ++ os)))
                   next-above (let w : line + count + 1 ≡ line + (count + 1) = omega arith in w);
             }

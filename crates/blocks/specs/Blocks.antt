@@ -11,6 +11,7 @@ use Rattle.lines.specs.Lines.{linesOf}
 use Rattle.instrument.specs.Lines.{Line}
 use Rattle.sheet.specs.Capacities.{operatorsMost}
 use Rattle.sheet.specs.Refusals.{Outcome, going, refused}
+use Rattle.strict.specs.declared.mode.Mode.{Mode}
 use Rattle.blocks.specs.declared.block.Block.{Block}
 use Rattle.operators.specs.OperatorLines.{operatorLines, operatorsRead}
 
@@ -34,11 +35,11 @@ linesIn (suc n) fs ss =
     ∷ linesIn n (drop 6 fs) (drop 2 ss)
 
 -- what comes of the operator lines of a text, the first of which has this number; 21 where the columns have no room for 32 operators
-unfoldable pub blockRead : ℕ → List ℕ → ℕ → ℕ → Outcome (List Line)
+unfoldable pub blockRead : Mode → ℕ → List ℕ → ℕ → ℕ → Outcome (List Line)
 unfolding linesOf operatorLines operatorsRead
-blockRead line below numbers shape =
+blockRead mode line below numbers shape =
     elim (leb (6 * operatorsMost) numbers && leb (2 * operatorsMost) shape)
-    [ true ↦ operatorsRead none line 0 (operatorLines (linesOf below)) | false ↦ refused 21 line ]
+    [ true ↦ operatorsRead mode none line 0 (operatorLines (linesOf below)) | false ↦ refused 21 line ]
 
 -- what an answer and the columns tell: a refusal is given at the line behind those that were read
 unfoldable pub blockOutcome : ℕ → Block → List Float → List ℕ → Outcome (List Line)

@@ -11,6 +11,7 @@ use instrument::operator::Operator;
 use lines::lines::line_at;
 use operators::line::OperatorLine;
 use operators::line::operator;
+use strict::mode::Mode;
 use text::blanks::blanks_end;
 
 // How many operator lines were read, and the place behind them.
@@ -57,8 +58,14 @@ fn put(numbers: &mut [f32], shape: &mut [usize], n: usize, tabs: usize, op: Oper
 }
 
 // The operator lines from place `at` of a source on. Where the columns have no room for 32 operators, 21.
-pub fn read_block(source: &[u8], at: usize, numbers: &mut [f32], shape: &mut [usize]) -> Block
-    ensures read { λ r. ⌜ ((line : ℕ) → blockOutcome line r (now (numbers .exit)) (now (shape .exit)) ≡ blockRead line (drop at (now (source .entry))) (length (now (numbers .entry))) (length (now (shape .entry)))) ⌝ }
+pub fn read_block(
+    source: &[u8],
+    at: usize,
+    numbers: &mut [f32],
+    shape: &mut [usize],
+    mode: Mode,
+) -> Block
+    ensures read { λ r. ⌜ ((line : ℕ) → blockOutcome line r (now (numbers .exit)) (now (shape .exit)) ≡ blockRead mode line (drop at (now (source .entry))) (length (now (numbers .entry))) (length (now (shape .entry)))) ⌝ }
     ensures place { λ r. ⌜ r .next ≡ behindLines (r .count) (now (source .entry)) at ⌝ }
     ensures onward { λ r. ⌜ (r .refusal ≡ 0 → linesOf (drop (r .next) (now (source .entry))) ≡ drop (r .count) (linesOf (drop at (now (source .entry))))) ⌝ }
     ensures within { λ r. ⌜ (at ≤ r .next) × (at ≤ length (now (source .entry)) → r .next ≤ length (now (source .entry))) ⌝ }
@@ -100,7 +107,7 @@ pub fn read_block(source: &[u8], at: usize, numbers: &mut [f32], shape: &mut [us
                 refusal: 0,
             };
         }
-        let read = operator(text, before, count);
+        let read = operator(text, before, count, mode);
         match read {
             OperatorLine::Refused(n) => {
                 return Block {

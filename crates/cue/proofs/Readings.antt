@@ -5,6 +5,7 @@ use mathlib.Core.List.{List}
 use Prim.Native.Nat.{ℕ}
 use borrow.Author.Tests.{eq-eqb, ne-eqb}
 use Rattle.sheet.specs.Refusals.{Outcome, going, refused}
+use Rattle.strict.specs.declared.mode.Mode.{Mode}
 use Rattle.handed.specs.Check.{isSheet}
 use Rattle.meaning.specs.declared.reading.Reading.{Reading}
 use Rattle.meaning.specs.Sheets.{Read, sheetRead}
@@ -14,37 +15,37 @@ use Rattle.engine.specs.Stream.{fileOf}
 use Rattle.refusal.specs.Line.{refusedLine}
 use Rattle.cue.specs.Answer.{answerTo, answerOf}
 
-module _ (source : List ℕ) where
-  sheet-passes : isSheet 44100 (readingOf 44100 source .sheet) ≡ true
+module _ (mode : Mode) (source : List ℕ) where
+  sheet-passes : isSheet 44100 (readingOf mode 44100 source .sheet) ≡ true
   unfolding readingOf laidOut
-  sheet-passes = go (sheetRead 44100 source) refl
+  sheet-passes = go (sheetRead mode 44100 source) refl
     where
-      go : (o : Outcome Read) → sheetRead 44100 source ≡ o → isSheet 44100 (readingOf 44100 source .sheet) ≡ true
-      go (going r) e = reading-passes 44100 source r e
-      go (refused n l) e = ap (λ (o : Outcome Read). isSheet 44100 (laidOut o .sheet)) e ∙ empty-passes 44100
+      go : (o : Outcome Read) → sheetRead mode 44100 source ≡ o → isSheet 44100 (readingOf mode 44100 source .sheet) ≡ true
+      go (going r) e = reading-passes mode 44100 source r e
+      go (refused n l) e = ap (λ (o : Outcome Read). isSheet 44100 (laidOut o .sheet)) e ∙ empty-passes mode 44100
 
-  module _ (r : Reading) (e : r ≡ readingOf 44100 source) where
+  module _ (r : Reading) (e : r ≡ readingOf mode 44100 source) where
     pub read-passes : isSheet 44100 (r .sheet) ≡ true
     read-passes = ap (λ (q : Reading). isSheet 44100 (q .sheet)) e ∙ sheet-passes
 
-    answered : answerOf source ≡ answerTo r
+    answered : answerOf mode source ≡ answerTo r
     unfolding answerOf
     answered = ap answerTo (sym e)
 
-    pub answer-line : (r .refusal ≡ 0 → ⊥) → answerOf source ≡ refusedLine (r .refusal) (r .line)
+    pub answer-line : (r .refusal ≡ 0 → ⊥) → answerOf mode source ≡ refusedLine (r .refusal) (r .line)
     unfolding answerTo
     answer-line h = answered ∙ rw (ne-eqb (r .refusal) 0 h, answerTo)
 
-    pub answer-file : r .refusal ≡ 0 → answerOf source ≡ fileOf 44100 (r .sheet)
+    pub answer-file : r .refusal ≡ 0 → answerOf mode source ≡ fileOf 44100 (r .sheet)
     unfolding answerTo
     answer-file h = answered ∙ rw (eq-eqb (r .refusal) 0 h, answerTo)
 
   -- ---- the answer by what has come of the reading
 
-  pub accepted-answer : (r : Read) → sheetRead 44100 source ≡ going r → answerOf source ≡ fileOf 44100 (sheetOf (r .parts) (r .instruments))
+  pub accepted-answer : (r : Read) → sheetRead mode 44100 source ≡ going r → answerOf mode source ≡ fileOf 44100 (sheetOf (r .parts) (r .instruments))
   unfolding answerOf answerTo readingOf laidOut
   accepted-answer r e = ap (λ (o : Outcome Read). answerTo (laidOut o)) e
 
-  pub refused-answer : (n l : ℕ) → sheetRead 44100 source ≡ refused n l → (n ≡ 0 → ⊥) → answerOf source ≡ refusedLine n l
+  pub refused-answer : (n l : ℕ) → sheetRead mode 44100 source ≡ refused n l → (n ≡ 0 → ⊥) → answerOf mode source ≡ refusedLine n l
   unfolding answerOf answerTo readingOf laidOut
   refused-answer n l e h = ap (λ (o : Outcome Read). answerTo (laidOut o)) e ∙ rw (ne-eqb n 0 h, answerTo)

@@ -4,6 +4,7 @@ use mathlib.Core.Bool.{true, false}
 use mathlib.Core.List.{List}
 use Prim.Native.Nat.{ℕ}
 use lib.Dec.{eqb}
+use Rattle.strict.specs.declared.mode.Mode.{Mode}
 use Rattle.refusal.specs.Line.{refusedLine}
 use Rattle.meaning.specs.declared.reading.Reading.{Reading}
 use Rattle.meaning.specs.Layout.{readingOf}
@@ -14,7 +15,7 @@ unfoldable pub answerTo : Reading → List ℕ
 unfolding fileOf refusedLine
 answerTo r = elim (eqb (r .refusal) 0) [ true ↦ fileOf 44100 (r .sheet) | false ↦ refusedLine (r .refusal) (r .line) ]
 
--- what the program writes where a source stands on its standard input
-unfoldable pub answerOf : List ℕ → List ℕ
+-- what the program writes in a mode, where a source stands on its standard input
+unfoldable pub answerOf : Mode → List ℕ → List ℕ
 unfolding readingOf answerTo
-answerOf source = answerTo (readingOf 44100 source)
+answerOf mode source = answerTo (readingOf mode 44100 source)

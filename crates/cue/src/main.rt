@@ -1,7 +1,9 @@
-// The program `cue`: it reads a cue sheet from standard input and writes its WAV file to standard output, or one line that says why the sheet is
-// refused. What a text means, and every byte of the file, is promised by the crates below; here their answers are handed on, each byte once and in order.
+// The program `cue`: it reads a cue sheet from standard input, strictly where it is asked to, and writes its WAV file to standard output, or one line that
+// says why the sheet is refused. What a text means, and every byte of the file, is promised by the crates below; here their answers are handed on, each byte
+// once and in order.
 
 mod output;
+mod words;
 
 ghost use mathlib.Core.Path.{_≡_};
 ghost use mathlib.Core.Bool.{true};
@@ -14,11 +16,15 @@ ghost use Rattle.refusal.specs.Line.{refusedLine};
 ghost use Rattle.cue.specs.Answer.{answerOf};
 ghost use Rattle.cue.specs.Handing.{Fresh, Whole};
 use crate::output::Output;
+use crate::words::Asked;
+use crate::words::asked_by;
+use crate::words::tell_use;
 use engine::stream::next_bytes;
 use libc::STDIN_FILENO;
 use parser::reader::read;
 use refusal::line::refused_line;
 use sheet::sheet::Sheet;
+use strict::mode::Mode;
 
 // One byte more than a source may have is enough to see that it has too many.
 const SOURCE: usize = 32769;
@@ -32,14 +38,21 @@ fn read_first(bytes: &mut [u8], n: usize) -> usize
 }
 
 // Hands `refused N L` and a line feed on: the refusal's number, and its line.
-fn hand_line(source: &[u8], number: u32, line: usize, out: Output, reached: &mut usize) -> Output
+fn hand_line(
+    mode: Mode,
+    source: &[u8],
+    number: u32,
+    line: usize,
+    out: Output,
+    reached: &mut usize,
+) -> Output
     requires fresh { ⌜ Fresh out (now reached) ⌝ }
-    requires answer { ⌜ answerOf (now source) ≡ refusedLine number line ⌝ }
-    ensures { λ r. ⌜ Whole (answerOf (now (source .entry))) r ⌝ }
+    requires answer { ⌜ answerOf mode (now source) ≡ refusedLine number line ⌝ }
+    ensures { λ r. ⌜ Whole (answerOf mode (now (source .entry))) r ⌝ }
 {
     let mut text = io::buffer();
     let n = refused_line(number, line, &mut text);
-    out.hand(source, &text[..n], reached)
+    out.hand(mode, source, &text[..n], reached)
 }
 
 // The next bytes of a sheet's file, from place `at` on, at the buffer's start, and how many they are.
@@ -52,10 +65,10 @@ fn next(sheet: Sheet, buffer: &mut [u8], at: usize) -> usize
 }
 
 // Hands a sheet's file on, part by part, until all of it is handed on or nobody takes it any more.
-fn hand_file(source: &[u8], sheet: Sheet, out: Output, reached: &mut usize) -> Output
+fn hand_file(mode: Mode, source: &[u8], sheet: Sheet, out: Output, reached: &mut usize) -> Output
     requires fresh { ⌜ Fresh out (now reached) ⌝ }
-    requires answer { ⌜ (answerOf (now source) ≡ fileOf 44100 sheet) × (isSheet 44100 sheet ≡ true) ⌝ }
-    ensures { λ r. ⌜ Whole (answerOf (now (source .entry))) r ⌝ }
+    requires answer { ⌜ (answerOf mode (now source) ≡ fileOf 44100 sheet) × (isSheet 44100 sheet ≡ true) ⌝ }
+    ensures { λ r. ⌜ Whole (answerOf mode (now (source .entry))) r ⌝ }
 {
     let mut buffer = io::large_buffer();
     let mut later = out;
@@ -64,26 +77,41 @@ fn hand_file(source: &[u8], sheet: Sheet, out: Output, reached: &mut usize) -> O
         if n == 0 {
             return later;
         }
-        later = later.hand(source, &buffer[..n], reached);
+        later = later.hand(mode, source, &buffer[..n], reached);
     }
     later
 }
 
-// Hands the whole answer to a source on: where the output takes all bytes, they are those of the answer, each once and in order.
-fn answer(source: &[u8], out: Output, reached: &mut usize) -> Output
+// Hands the whole answer to a source in a mode on: where the output takes all bytes, they are those of the answer, each once and in order.
+fn answer(mode: Mode, source: &[u8], out: Output, reached: &mut usize) -> Output
     requires { ⌜ Fresh out (now reached) ⌝ }
-    ensures { λ r. ⌜ Whole (answerOf (now (source .entry))) r ⌝ }
+    ensures { λ r. ⌜ Whole (answerOf mode (now (source .entry))) r ⌝ }
 {
-    let reading = read(source);
+    let reading = read(source, mode);
     if reading.refusal != 0 {
-        return hand_line(source, reading.refusal, reading.line, out, reached);
+        return hand_line(mode, source, reading.refusal, reading.line, out, reached);
     }
-    hand_file(source, reading.sheet, out, reached)
+    hand_file(mode, source, reading.sheet, out, reached)
 }
 
-fn main() {
+// Reads standard input to its end, or to one byte more than a source may have, and hands the answer on.
+fn run(mode: Mode) {
     let mut bytes = io::large_buffer();
     let n = read_first(&mut bytes, SOURCE);
     let mut reached: usize = 0;
-    answer(&bytes[..n], Output::start(), &mut reached);
+    answer(mode, &bytes[..n], Output::start(), &mut reached);
+}
+
+fn main() {
+    // A word that does not fit is none that the program understands, and counts as empty.
+    let mut word = [0u8; 16];
+    let n = os::arg(1, &mut word);
+    match asked_by(os::arg_count(), &word[..n]) {
+        Asked::Read(mode) => {
+            run(mode);
+        }
+        Asked::Unknown => {
+            tell_use();
+        }
+    }
 }

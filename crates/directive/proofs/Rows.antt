@@ -16,8 +16,11 @@ use Rattle.lines.specs.Tokens.{firstToken, namedOf, nameAt, namedBy}
 use Rattle.text.proofs.Fronts.{after-is, take-front, front-within}
 use Rattle.lines.proofs.Named.{named-is, name-within}
 use Rattle.number.specs.declared.digits.Int.{Int}
-use Rattle.number.specs.Digits.{valueMost, intAt}
-use Rattle.sheet.specs.Refusals.{Outcome, going, _>>=_, refuse_on_without_}
+use Rattle.number.specs.Digits.{valueMost, intAt, intWidth}
+use Rattle.sheet.specs.Refusals.{Outcome, going, refused, _>>=_, _>>_, refuse_on_without_}
+use Rattle.strict.specs.declared.mode.Mode.{Mode}
+use Rattle.strict.specs.Strict.{tailed, readToItsEnd}
+use Rattle.strict.proofs.Tails.{read-through, read-tail}
 use Rattle.environment.specs.declared.environment.Environment.{Environment}
 use Rattle.keys.specs.declared.key.Key.{Key}
 use Rattle.keys.specs.declared.key.KeyAt.the-variants.{Found, Absent}
@@ -25,67 +28,102 @@ use Rattle.environment.specs.declared.range.RangedValue.{RangedValue}
 use Rattle.environment.specs.declared.range.RangedValue.the-variants as RangedValue
 use Rattle.environment.specs.Bounds.{Bounds, tempos, denominators}
 use Rattle.environment.specs.Environment.{withTempo, withDenominator}
-use Rattle.keys.specs.Keys.{keyAt, keyFound}
+use Rattle.keys.specs.Keys.{keyAt, keyFound, keyWidth}
 use Rattle.environment.specs.Ranges.{digitRun, ranged, valueOutcome}
 use Rattle.directive.specs.declared.directive.Directive.the-variants.{Tempo, Denominator, OfKey, Refused}
 use Rattle.directive.specs.Directives.{directives, changeOf, directiveOf, directiveOutcome}
 
 -- ---- what each row answers
 
--- a number within bounds, put where it belongs
-module _ (b : Bounds) (f : ℕ → Environment → Environment) (n i : Int) (r q : RangedValue) (line : ℕ) where
-  answered : r ≡ q → valueOutcome line r ≡ ranged line b (digitRun n) → n ≡ i
-      → (valueOutcome line q >>= (λ v. going (f v))) ≡ (ranged line b (digitRun i) >>= (λ v. going (f v)))
-  answered e h g =
-      ap (λ (o : Outcome ℕ). o >>= (λ v. going (f v))) (ap (valueOutcome line) (sym e) ∙ h ∙ ap (λ (x : Int). ranged line b (digitRun x)) g)
+module _ (mode : Mode) (text : List ℕ) where
+  -- a number within bounds, put where it belongs once the token is read to its end
+  module _ (b : Bounds) (f : ℕ → Environment → Environment) (n : Int) (r : RangedValue) (g : n ≡ intAt valueMost text 0)
+      (h : (line : ℕ) → valueOutcome line r ≡ ranged line b (digitRun n)) where
+    abbrev row : ℕ → Outcome (Environment → Environment)
+    row line = ranged line b (digitRun (intAt valueMost text 0)) >>= (λ v. readToItsEnd mode line text (intWidth (intAt valueMost text 0)) >> going (f v))
 
-module _ (text : List ℕ) (v : ℕ) (n : Int) (r : RangedValue) (g : n ≡ intAt valueMost text 0) where
-  module _ (h : (line : ℕ) → valueOutcome line r ≡ ranged line tempos (digitRun n)) where
-    pub tempo-to : r ≡ RangedValue.Value v → (line : ℕ) → directiveOutcome line (Tempo v) ≡ changeOf line (bytes "#tempo") text
-    unfolding changeOf directives rowNamed same bytes directiveOutcome valueOutcome _>>=_
-    tempo-to e line = answered tempos withTempo n _ r _ line e (h line) g
+    within : (q : RangedValue) → r ≡ q → (line : ℕ) → ranged line b (digitRun (intAt valueMost text 0)) ≡ valueOutcome line q
+    within q e line = sym (ap (valueOutcome line) (sym e) ∙ h line ∙ ap (λ (x : Int). ranged line b (digitRun x)) g)
 
-    pub tempo-refused : r ≡ RangedValue.Refused v → (line : ℕ) → directiveOutcome line (Refused v) ≡ changeOf line (bytes "#tempo") text
-    unfolding changeOf directives rowNamed same bytes directiveOutcome valueOutcome _>>=_
-    tempo-refused e line = answered tempos withTempo n _ r _ line e (h line) g
+    module _ (v stop : ℕ) (i : stop ≡ intWidth n) where
+      stops : intWidth (intAt valueMost text 0) ≡ stop
+      stops = sym (i ∙ ap intWidth g)
 
-  module _ (h : (line : ℕ) → valueOutcome line r ≡ ranged line denominators (digitRun n)) where
-    pub denominator-to : r ≡ RangedValue.Value v → (line : ℕ) → directiveOutcome line (Denominator v) ≡ changeOf line (bytes "#denom") text
-    unfolding changeOf directives rowNamed same bytes directiveOutcome valueOutcome _>>=_
-    denominator-to e line = answered denominators withDenominator n _ r _ line e (h line) g
+      row-to : r ≡ RangedValue.Value v → tailed mode stop (length text) ≡ false → (line : ℕ) → going (f v) ≡ row line
+      unfolding valueOutcome _>>=_ _>>_
+      row-to e t line = sym (rw (within _ e line, stops, read-through mode line text stop t))
 
-    pub denominator-refused : r ≡ RangedValue.Refused v → (line : ℕ) → directiveOutcome line (Refused v) ≡ changeOf line (bytes "#denom") text
-    unfolding changeOf directives rowNamed same bytes directiveOutcome valueOutcome _>>=_
-    denominator-refused e line = answered denominators withDenominator n _ r _ line e (h line) g
+      row-tailed : r ≡ RangedValue.Value v → tailed mode stop (length text) ≡ true → (line : ℕ) → refused 32 line ≡ row line
+      unfolding valueOutcome _>>=_ _>>_
+      row-tailed e t line = sym (rw (within _ e line, stops, read-tail mode line text stop t))
 
-module _ (text : List ℕ) where
-  pub key-to : (k : Key) (next : ℕ) → keyAt text 0 ≡ Found k next → (line : ℕ) → directiveOutcome line (OfKey k) ≡ changeOf line (bytes "#key") text
-  unfolding changeOf directives rowNamed same bytes directiveOutcome keyFound _>>=_ refuse_on_without_
-  key-to k next e line = rw e
+    row-refused : (k : ℕ) → r ≡ RangedValue.Refused k → (line : ℕ) → refused k line ≡ row line
+    unfolding valueOutcome _>>=_
+    row-refused k e line = sym (rw (within _ e line))
 
-  pub key-refused : keyAt text 0 ≡ Absent → (line : ℕ) → directiveOutcome line (Refused 9) ≡ changeOf line (bytes "#key") text
+  module _ (n : Int) (r : RangedValue) (g : n ≡ intAt valueMost text 0) where
+    module _ (h : (line : ℕ) → valueOutcome line r ≡ ranged line tempos (digitRun n)) where
+      pub tempo-to : (v stop : ℕ) → stop ≡ intWidth n → r ≡ RangedValue.Value v → tailed mode stop (length text) ≡ false
+          → (line : ℕ) → directiveOutcome line (Tempo v) ≡ changeOf mode line (bytes "#tempo") text
+      unfolding changeOf directives rowNamed same bytes directiveOutcome
+      tempo-to v stop i e t line = row-to tempos withTempo n r g h v stop i e t line
+
+      pub tempo-tailed : (v stop : ℕ) → stop ≡ intWidth n → r ≡ RangedValue.Value v → tailed mode stop (length text) ≡ true
+          → (line : ℕ) → directiveOutcome line (Refused 32) ≡ changeOf mode line (bytes "#tempo") text
+      unfolding changeOf directives rowNamed same bytes directiveOutcome
+      tempo-tailed v stop i e t line = row-tailed tempos withTempo n r g h v stop i e t line
+
+      pub tempo-refused : (k : ℕ) → r ≡ RangedValue.Refused k → (line : ℕ) → directiveOutcome line (Refused k) ≡ changeOf mode line (bytes "#tempo") text
+      unfolding changeOf directives rowNamed same bytes directiveOutcome
+      tempo-refused k e line = row-refused tempos withTempo n r g h k e line
+
+    module _ (h : (line : ℕ) → valueOutcome line r ≡ ranged line denominators (digitRun n)) where
+      pub denominator-to : (v stop : ℕ) → stop ≡ intWidth n → r ≡ RangedValue.Value v → tailed mode stop (length text) ≡ false
+          → (line : ℕ) → directiveOutcome line (Denominator v) ≡ changeOf mode line (bytes "#denom") text
+      unfolding changeOf directives rowNamed same bytes directiveOutcome
+      denominator-to v stop i e t line = row-to denominators withDenominator n r g h v stop i e t line
+
+      pub denominator-tailed : (v stop : ℕ) → stop ≡ intWidth n → r ≡ RangedValue.Value v → tailed mode stop (length text) ≡ true
+          → (line : ℕ) → directiveOutcome line (Refused 32) ≡ changeOf mode line (bytes "#denom") text
+      unfolding changeOf directives rowNamed same bytes directiveOutcome
+      denominator-tailed v stop i e t line = row-tailed denominators withDenominator n r g h v stop i e t line
+
+      pub denominator-refused : (k : ℕ) → r ≡ RangedValue.Refused k → (line : ℕ) → directiveOutcome line (Refused k) ≡ changeOf mode line (bytes "#denom") text
+      unfolding changeOf directives rowNamed same bytes directiveOutcome
+      denominator-refused k e line = row-refused denominators withDenominator n r g h k e line
+
+  module _ (k : Key) (next : ℕ) (e : keyAt text 0 ≡ Found k next) where
+    pub key-to : tailed mode next (length text) ≡ false → (line : ℕ) → directiveOutcome line (OfKey k) ≡ changeOf mode line (bytes "#key") text
+    unfolding changeOf directives rowNamed same bytes directiveOutcome keyFound keyWidth _>>=_ _>>_ refuse_on_without_
+    key-to t line = sym (rw (e, read-through mode line text next t))
+
+    pub key-tailed : tailed mode next (length text) ≡ true → (line : ℕ) → directiveOutcome line (Refused 32) ≡ changeOf mode line (bytes "#key") text
+    unfolding changeOf directives rowNamed same bytes directiveOutcome keyFound keyWidth _>>=_ _>>_ refuse_on_without_
+    key-tailed t line = sym (rw (e, read-tail mode line text next t))
+
+  pub key-refused : keyAt text 0 ≡ Absent → (line : ℕ) → directiveOutcome line (Refused 9) ≡ changeOf mode line (bytes "#key") text
   unfolding changeOf directives rowNamed same bytes directiveOutcome keyFound _>>=_ refuse_on_without_
   key-refused e line = rw e
 
 -- ---- which row a name has
 
-module _ (name text : List ℕ) (line : ℕ) where
-  pub tempo-named : same name (bytes "#tempo") ≡ true → changeOf line (bytes "#tempo") text ≡ changeOf line name text
+module _ (mode : Mode) (name text : List ℕ) (line : ℕ) where
+  pub tempo-named : same name (bytes "#tempo") ≡ true → changeOf mode line (bytes "#tempo") text ≡ changeOf mode line name text
   unfolding changeOf directives rowNamed same bytes
   tempo-named e = rw (e, rowNamed)
 
   pub denominator-named : same name (bytes "#tempo") ≡ false → same name (bytes "#denom") ≡ true
-      → changeOf line (bytes "#denom") text ≡ changeOf line name text
+      → changeOf mode line (bytes "#denom") text ≡ changeOf mode line name text
   unfolding changeOf directives rowNamed same bytes
   denominator-named e f = rw (e, f, rowNamed)
 
   pub key-named : same name (bytes "#tempo") ≡ false → same name (bytes "#denom") ≡ false → same name (bytes "#key") ≡ true
-      → changeOf line (bytes "#key") text ≡ changeOf line name text
+      → changeOf mode line (bytes "#key") text ≡ changeOf mode line name text
   unfolding changeOf directives rowNamed same bytes
   key-named e f g = rw (e, f, g, rowNamed)
 
   pub unnamed : same name (bytes "#tempo") ≡ false → same name (bytes "#denom") ≡ false → same name (bytes "#key") ≡ false
-      → directiveOutcome line (Refused 6) ≡ changeOf line name text
+      → directiveOutcome line (Refused 6) ≡ changeOf mode line name text
   unfolding changeOf directives rowNamed same bytes directiveOutcome
   unnamed e f g = rw (e, f, g, rowNamed)
 
@@ -101,9 +139,9 @@ module _ (l : List ℕ) (p : NameAt) (e : p ≡ nameAt l) where
   place-within = rw e (name-within l)
 
   -- 7, or what the two tokens say
-  pub under-two : p .two ≡ false → (line : ℕ) → directiveOutcome line (Refused 7) ≡ directiveOf line l
+  pub under-two : p .two ≡ false → (mode : Mode) (line : ℕ) → directiveOutcome line (Refused 7) ≡ directiveOf mode line l
   unfolding directiveOutcome directiveOf namedBy _>>=_ refuse_on_without_
-  under-two t line = let z : namedOf l ≡ none = sym found ∙ rw t in rw z
+  under-two t mode line = let z : namedOf l ≡ none = sym found ∙ rw t in rw z
 
   module _ (next last : ℕ) (n : next ≡ p .end + length (front isBlank (drop (p .end) l))) (m : last ≡ next + length (front isInk (drop next l))) where
     -- the second token lies within the line
@@ -121,8 +159,8 @@ module _ (l : List ℕ) (p : NameAt) (e : p ≡ nameAt l) where
         ∙ take-front isInk (drop next l)
         ∙ ap (front isInk) (ap (λ (k : ℕ). drop k l) n ∙ sym (after-is isBlank l (p .end)))
 
-    pub two-tokens : p .two ≡ true → (line : ℕ) → changeOf line (between l (p .from) (p .end)) (between l next last) ≡ directiveOf line l
+    pub two-tokens : p .two ≡ true → (mode : Mode) (line : ℕ) → changeOf mode line (between l (p .from) (p .end)) (between l next last) ≡ directiveOf mode line l
     unfolding directiveOf namedBy _>>=_ refuse_on_without_
-    two-tokens t line =
+    two-tokens t mode line =
         let z : namedOf l ≡ some (record { name = between l (p .from) (p .end); body = drop (p .end) l }) = sym found ∙ rw t in
-        rw z (ap (changeOf line (between l (p .from) (p .end))) value-is)
+        rw z (ap (changeOf mode line (between l (p .from) (p .end))) value-is)

@@ -6,50 +6,56 @@ use Prim.Native.String.{String}
 use lib.ListN.{take, drop}
 use Rattle.text.specs.Characters.{rowNamed}
 use Rattle.lines.specs.Tokens.{namedOf, firstToken}
-use Rattle.number.specs.Digits.{valueMost, intAt}
-use Rattle.sheet.specs.Refusals.{Outcome, going, refused, _>>=_, refuse_on_without_}
+use Rattle.number.specs.Digits.{valueMost, intAt, intWidth}
+use Rattle.sheet.specs.Refusals.{Outcome, going, refused, _>>=_, _>>_, refuse_on_without_}
+use Rattle.strict.specs.declared.mode.Mode.{Mode}
+use Rattle.strict.specs.Strict.{readToItsEnd}
 use Rattle.environment.specs.declared.environment.Environment.{Environment}
 use Rattle.directive.specs.declared.directive.Directive.{Directive}
 use Rattle.directive.specs.declared.directive.Directive.the-variants.{Tempo, Denominator, OfKey, Refused}
-use Rattle.keys.specs.Keys.{keyAt, keyFound}
+use Rattle.keys.specs.Keys.{keyAt, keyFound, keyWidth}
 use Rattle.environment.specs.Bounds.{denominators, tempos}
 use Rattle.environment.specs.Environment.{withTempo, withDenominator, withKey}
 use Rattle.environment.specs.Ranges.{digitRun, ranged}
 
--- what each directive changes, by its value, which is what its second token begins with
-unfoldable pub directives : ℕ → List (String × (List ℕ → Outcome (Environment → Environment)))
-unfolding ranged digitRun intAt keyFound keyAt
-directives line = (
+-- what each directive changes, by its value, which is what its second token begins with; in strict mode it is all of the token, or else 32 comes "after 8
+-- or 9"
+unfoldable pub directives : Mode → ℕ → List (String × (List ℕ → Outcome (Environment → Environment)))
+unfolding ranged digitRun intAt keyFound keyAt readToItsEnd intWidth keyWidth
+directives mode line = (
   "#tempo",
   λ text. do
     v ← ranged line tempos (digitRun (intAt valueMost text 0))
+    readToItsEnd mode line text (intWidth (intAt valueMost text 0))
     going (withTempo v),
 )
     ∷ (
       "#denom",
       λ text. do
         v ← ranged line denominators (digitRun (intAt valueMost text 0))
+        readToItsEnd mode line text (intWidth (intAt valueMost text 0))
         going (withDenominator v),
     )
     ∷ (
       "#key",
       λ text. do
         k ← refuse 9 on line without (keyFound (keyAt text 0))
+        readToItsEnd mode line text (keyWidth (keyAt text 0))
         going (withKey k),
     )
     ∷ []
 
 -- "6, then value"
-unfoldable pub changeOf : ℕ → List ℕ → List ℕ → Outcome (Environment → Environment)
+unfoldable pub changeOf : Mode → ℕ → List ℕ → List ℕ → Outcome (Environment → Environment)
 unfolding rowNamed directives
-changeOf line name text = rowNamed name (λ text. refused 6 line) (directives line) text
+changeOf mode line name text = rowNamed name (λ text. refused 6 line) (directives mode line) text
 
 -- "Directive: 7 for tokens, 6, then value.": what a line says that is to be changed
-unfoldable pub directiveOf : ℕ → List ℕ → Outcome (Environment → Environment)
+unfoldable pub directiveOf : Mode → ℕ → List ℕ → Outcome (Environment → Environment)
 unfolding namedOf firstToken changeOf
-directiveOf line l = do
+directiveOf mode line l = do
   n ← refuse 7 on line without (namedOf l)
-  changeOf line (n .name) (firstToken (n .body))
+  changeOf mode line (n .name) (firstToken (n .body))
 
 -- ---- answers: what each case stands for, on a line
 

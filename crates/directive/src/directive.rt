@@ -3,6 +3,7 @@
 ghost use mathlib.Core.Path.{_≡_};
 ghost use Prim.Native.Nat.{ℕ};
 ghost use Rattle.text.specs.Quoted.{bytes};
+ghost use Rattle.number.specs.Digits.{intWidth};
 ghost use Rattle.directive.specs.Directives.{changeOf, directiveOf, directiveOutcome, applied, appliedTo};
 use environment::environment::Environment;
 use environment::range::RangedValue;
@@ -12,7 +13,10 @@ use keys::key::KeyAt;
 use keys::key::key_at;
 use lines::names::least;
 use lines::names::name_at;
+use number::digits::Int;
 use number::digits::eat_int;
+use strict::mode::Mode;
+use strict::mode::has_tail;
 use text::blanks::blanks_end;
 use text::blanks::ink_end;
 use text::characters::same_text;
@@ -25,14 +29,31 @@ pub enum Directive {
     Refused(u32),
 }
 
+// The place at which the reading of a value stopped: 0 where there is no digit run.
+fn run_stop(n: Int) -> usize
+    ensures { λ r. ⌜ r ≡ intWidth n ⌝ }
+{
+    match n {
+        Int::Number(_, next) => {
+            return next;
+        }
+        Int::Absent => {
+            return 0;
+        }
+    }
+}
+
 // The value of `#tempo`: what its token begins with.
-fn tempo(value: &[u8]) -> Directive
-    ensures { λ r. ⌜ ((line : ℕ) → directiveOutcome line r ≡ changeOf line (bytes "#tempo") (now (value .entry))) ⌝ }
+fn tempo(value: &[u8], mode: Mode) -> Directive
+    ensures { λ r. ⌜ ((line : ℕ) → directiveOutcome line r ≡ changeOf mode line (bytes "#tempo") (now (value .entry))) ⌝ }
 {
     let n = eat_int(value, 0, 4294967295);
     let found = ranged_value(n, Environment::MIN_TEMPO, Environment::MAX_TEMPO);
     match found {
         RangedValue::Value(v) => {
+            if has_tail(mode, run_stop(n), value.len()) {
+                return Directive::Refused(32);
+            }
             return Directive::Tempo(v);
         }
         RangedValue::Refused(number) => {
@@ -42,13 +63,16 @@ fn tempo(value: &[u8]) -> Directive
 }
 
 // The value of `#denom`.
-fn denominator(value: &[u8]) -> Directive
-    ensures { λ r. ⌜ ((line : ℕ) → directiveOutcome line r ≡ changeOf line (bytes "#denom") (now (value .entry))) ⌝ }
+fn denominator(value: &[u8], mode: Mode) -> Directive
+    ensures { λ r. ⌜ ((line : ℕ) → directiveOutcome line r ≡ changeOf mode line (bytes "#denom") (now (value .entry))) ⌝ }
 {
     let n = eat_int(value, 0, 4294967295);
     let found = ranged_value(n, Environment::MIN_DENOM, Environment::MAX_DENOM);
     match found {
         RangedValue::Value(v) => {
+            if has_tail(mode, run_stop(n), value.len()) {
+                return Directive::Refused(32);
+            }
             return Directive::Denominator(v);
         }
         RangedValue::Refused(number) => {
@@ -58,12 +82,15 @@ fn denominator(value: &[u8]) -> Directive
 }
 
 // The value of `#key`.
-fn key(value: &[u8]) -> Directive
-    ensures { λ r. ⌜ ((line : ℕ) → directiveOutcome line r ≡ changeOf line (bytes "#key") (now (value .entry))) ⌝ }
+fn key(value: &[u8], mode: Mode) -> Directive
+    ensures { λ r. ⌜ ((line : ℕ) → directiveOutcome line r ≡ changeOf mode line (bytes "#key") (now (value .entry))) ⌝ }
 {
     let found = key_at(value, 0);
     match found {
-        KeyAt::Found(k, _) => {
+        KeyAt::Found(k, next) => {
+            if has_tail(mode, next, value.len()) {
+                return Directive::Refused(32);
+            }
             return Directive::OfKey(k);
         }
         KeyAt::Absent => {
@@ -73,24 +100,24 @@ fn key(value: &[u8]) -> Directive
 }
 
 // What a name and a value say: 6 where no directive has the name.
-fn change(name: &[u8], value: &[u8]) -> Directive
-    ensures { λ r. ⌜ ((line : ℕ) → directiveOutcome line r ≡ changeOf line (now (name .entry)) (now (value .entry))) ⌝ }
+fn change(name: &[u8], value: &[u8], mode: Mode) -> Directive
+    ensures { λ r. ⌜ ((line : ℕ) → directiveOutcome line r ≡ changeOf mode line (now (name .entry)) (now (value .entry))) ⌝ }
 {
     if same_text(name, b"#tempo") {
-        return tempo(value);
+        return tempo(value, mode);
     }
     if same_text(name, b"#denom") {
-        return denominator(value);
+        return denominator(value, mode);
     }
     if same_text(name, b"#key") {
-        return key(value);
+        return key(value, mode);
     }
     Directive::Refused(6)
 }
 
 // What a line says that begins with `#`: 7 where it has under two tokens, then what its name and its value say.
-pub fn read_directive(l: &[u8]) -> Directive
-    ensures { λ r. ⌜ ((line : ℕ) → directiveOutcome line r ≡ directiveOf line (now (l .entry))) ⌝ }
+pub fn read_directive(l: &[u8], mode: Mode) -> Directive
+    ensures { λ r. ⌜ ((line : ℕ) → directiveOutcome line r ≡ directiveOf mode line (now (l .entry))) ⌝ }
 {
     let place = name_at(l);
     let from = place.from;
@@ -103,7 +130,7 @@ pub fn read_directive(l: &[u8]) -> Directive
     let next = blanks_end(l, end);
     let last = ink_end(l, next);
     let value = &l[next..last];
-    change(name, value)
+    change(name, value, mode)
 }
 
 // The change carried out on an environment. A refusal changes nothing.

@@ -16,8 +16,8 @@ use Rattle.text.proofs.Fronts.{front-within, take-front}
 use Rattle.text.proofs.Rows.{row-none, row-past}
 use Rattle.number.specs.declared.digits.Int.{Int}
 use Rattle.number.specs.declared.decimal.Decimal.{Decimal}
-use Rattle.number.specs.Digits.{intAt}
-use Rattle.number.specs.Decimal.{decimalAt}
+use Rattle.number.specs.Digits.{intAt, intWidth}
+use Rattle.number.specs.Decimal.{decimalAt, decimalWidth}
 use Rattle.number.proofs.Tokens.{intMoved, decimalMoved, int-moved, decimal-moved}
 use Rattle.keys.specs.declared.key.KeyAt.{KeyAt}
 use Rattle.keys.specs.declared.key.KeyAt.the-variants.{Found as KeyFound, Absent as NoKey}
@@ -25,7 +25,7 @@ use Rattle.keys.specs.Keys.{keyAt}
 use Rattle.environment.specs.Ranges.{Amount, digitRun, amountOf}
 use Rattle.keys.proofs.Moves.{keyMoved, key-moved}
 use Rattle.items.specs.Items.{Item, Found, found, unknown, amplitude, key}
-use Rattle.items.specs.Items.{numbered, named, intWidth, decimalWidth, keyItem, itemAt, isNoteLetter, noteAt, beginnings}
+use Rattle.items.specs.Items.{numbered, named, keyItem, itemAt, isNoteLetter, noteAt, beginnings}
 use Rattle.items.specs.Steps.{intEnd, decimalEnd, keyEnd, rowsFrom}
 use Rattle.keys.specs.Keys.{keyFound}
 use Rattle.items.proofs.Ends.{run-moved, amount-moved, int-end-width, decimal-end-width, int-ends, decimal-ends, key-ends}

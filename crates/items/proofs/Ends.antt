@@ -9,8 +9,8 @@ use Rattle.number.specs.declared.digits.Int.{Int}
 use Rattle.number.specs.declared.digits.Int.the-variants.{Number, Absent}
 use Rattle.number.specs.declared.decimal.Decimal.{Decimal}
 use Rattle.number.specs.declared.decimal.Decimal.the-variants.{Value, Unreadable, TooLong}
-use Rattle.number.specs.Digits.{intAt}
-use Rattle.number.specs.Decimal.{decimalAt}
+use Rattle.number.specs.Digits.{intAt, intWidth}
+use Rattle.number.specs.Decimal.{decimalAt, decimalWidth}
 use Rattle.number.proofs.Tokens.{intMoved, decimalMoved}
 use Rattle.number.proofs.Places.{int-placed}
 use Rattle.number.proofs.Cuts.{decimal-placed}
@@ -21,7 +21,6 @@ use Rattle.keys.specs.declared.key.KeyAt.the-variants.{Found as KeyFound, Absen
 use Rattle.keys.specs.Keys.{noteMarkAt, keyAt}
 use Rattle.environment.specs.Ranges.{digitRun, amountOf}
 use Rattle.keys.proofs.Moves.{markMoved, note-mark-within, key-within}
-use Rattle.items.specs.Items.{intWidth, decimalWidth}
 use Rattle.items.specs.Steps.{intEnd, decimalEnd, markEnd, keyEnd}
 use Rattle.keys.specs.Keys.{accidentalFound}
 

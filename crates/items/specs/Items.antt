@@ -11,10 +11,8 @@ use Rattle.text.specs.Characters.{is, startsWith, begins, rowOf}
 use Rattle.text.specs.Fronts.{front}
 use Rattle.number.specs.declared.digits.Int.{Int}
 use Rattle.number.specs.declared.digits.Int.the-variants.{Number, Absent}
-use Rattle.number.specs.declared.decimal.Decimal.{Decimal}
-use Rattle.number.specs.declared.decimal.Decimal.the-variants.{Value, Unreadable, TooLong}
-use Rattle.number.specs.Digits.{valueMost, countMost, intAt}
-use Rattle.number.specs.Decimal.{decimalAt}
+use Rattle.number.specs.Digits.{valueMost, countMost, intAt, intWidth}
+use Rattle.number.specs.Decimal.{decimalAt, decimalWidth}
 use Rattle.keys.specs.declared.key.Accidental.{Accidental}
 use Rattle.keys.specs.declared.key.Mark.{Mark}
 use Rattle.keys.specs.declared.key.Mark.the-variants.{With, Without}
@@ -84,17 +82,8 @@ isNoteLetter b = isKeyLetter b || is "r" b
 -- ---- commands
 
 -- `o`, `l`, `t` and `]`, which take a digit run
-unfoldable pub intWidth : Int → ℕ
-intWidth (Number v next) = next
-intWidth Absent = 0
-
 abbrev pub numbered : (Option ℕ → Item) → Int → Found
 numbered make n = found (make (digitRun n)) (intWidth n)
-
-unfoldable pub decimalWidth : Decimal → ℕ
-decimalWidth (Value x next) = next
-decimalWidth Unreadable = 0
-decimalWidth TooLong = 0
 
 -- `k` and its key; the key's bytes are passed over where there is one
 unfoldable pub keyItem : KeyAt → Found

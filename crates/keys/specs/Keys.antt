@@ -125,6 +125,11 @@ unfoldable pub keyFound : KeyAt → Option Key
 keyFound (Found k next) = some k
 keyFound Absent = none
 
+-- where the reading of a text from its start stopped: behind the key, or at the start where there is none
+unfoldable pub keyWidth : KeyAt → ℕ
+keyWidth (Found k next) = next
+keyWidth Absent = 0
+
 -- whether a letter is in a key: `r` never is
 unfoldable pub inKey : Key → ℕ → Bool
 unfolding rowOf

@@ -8,6 +8,7 @@ use Rattle.instrument.specs.declared.machine.Command.{Command}
 use Rattle.instrument.specs.Lines.{Line, commandsOf}
 use Rattle.sheet.specs.declared.note.Note.{Note}
 use Rattle.sheet.specs.Refusals.{Outcome, going, refused}
+use Rattle.strict.specs.declared.mode.Mode.{Mode}
 use Rattle.meaning.specs.Parts.{NamedPart}
 use Rattle.meaning.specs.Sheets.{Read, sheetRead, lengthRead}
 
@@ -34,7 +35,7 @@ answered rate (going r) =
     })
 answered rate (refused n l) = refused n l
 
--- the answer to a quoted sheet, at 44,100 samples a second
-unfoldable pub answer : String → Outcome Answer
+-- the answer to a quoted sheet in a mode, at 44,100 samples a second
+unfoldable pub answer : Mode → String → Outcome Answer
 unfolding bytes sheetRead answered
-answer t = answered 44100 (sheetRead 44100 (bytes t))
+answer mode t = answered 44100 (sheetRead mode 44100 (bytes t))

@@ -1,4 +1,4 @@
--- Demand 3 for sheets: every instrument of an accepted sheet in whose operator lines no two neighbours have equal indent has the value of the tree that
+-- Demand 3 for sheets, in either mode: every instrument of an accepted sheet in whose operator lines no two neighbours have equal indent has the value of the tree that
 -- those lines describe, at any frequency, duration and time. The lines are those that the definition finds in the text; that their indents are
 -- accepted and that their commands fit an instrument follows from the refusals. Assumes nothing.
 use mathlib.Core.Path.{_≡_, refl, ap, _∙_}
@@ -28,6 +28,7 @@ use Rattle.meaning.proofs.Throughout.{KeptByLines, of-accepted}
 use Rattle.commands.specs.Commands.{noCommand, instrumentOf}
 use Rattle.sheet.specs.Padding.{padded}
 use Rattle.meaning.specs.Layout.{sheetOf, laidOut, readingOf}
+use Rattle.strict.specs.declared.mode.Mode.{Mode}
 use Rattle.meaning.specs.Sheets.{Read, readOf, plain, headerRead, directiveRead, macroRead, partRead, nothingRead, sheetRead}
 
 -- ---- a fact of every instrument
@@ -54,18 +55,18 @@ plain-fits : AllFit none 0 plain
 unfolding accepted
 plain-fits = record { indents = tt; few = omega arith }
 
-header-kept : (line : ℕ) (name : List ℕ) (below : List (List ℕ)) (r : Read) → Kept r → Holds Kept (headerRead line name below r)
+header-kept : (mode : Mode) (line : ℕ) (name : List ℕ) (below : List (List ℕ)) (r : Read) → Kept r → Holds Kept (headerRead mode line name below r)
 unfolding headerRead
-header-kept line name below r g =
+header-kept mode line name below r g =
     holds-after _ _ _
-    (λ n. holds-then (AllFit none 0) Kept (operatorsRead none (line + 1) 0 (operatorLines below))
+    (λ n. holds-then (AllFit none 0) Kept (operatorsRead mode none (line + 1) 0 (operatorLines below))
     (λ os. going (readOf (r .start) (r .parts) (r .macros) (r .names ++ (n ∷ [])) (r .instruments ++ (os ∷ [])) (r .steps)))
-    (all-fit none (line + 1) 0 (operatorLines below) (omega arith))
+    (all-fit mode none (line + 1) 0 (operatorLines below) (omega arith))
     (λ os k. holds-going Kept _ (every-last (AllFit none 0) (r .instruments) os g k)))
 
-directive-kept : (line : ℕ) (l : List ℕ) (r : Read) → Kept r → Holds Kept (directiveRead line l r)
+directive-kept : (mode : Mode) (line : ℕ) (l : List ℕ) (r : Read) → Kept r → Holds Kept (directiveRead mode line l r)
 unfolding directiveRead
-directive-kept line l r g = holds-after _ _ _ (λ f. holds-going Kept _ g)
+directive-kept mode line l r g = holds-after _ _ _ (λ f. holds-going Kept _ g)
 
 macro-kept : (line : ℕ) (l : List ℕ) (r : Read) → Kept r → Holds Kept (macroRead line l r)
 unfolding macroRead
@@ -75,13 +76,13 @@ part-kept : (rate line : ℕ) (n : Option Named) (r : Read) → Kept r → Holds
 unfolding partRead
 part-kept rate line n r g = holds-after _ _ _ (λ q. holds-going Kept _ g)
 
-kept : (rate : ℕ) → KeptByLines Kept rate
+kept : (mode : Mode) (rate : ℕ) → KeptByLines Kept mode rate
 unfolding nothingRead
-kept rate = record { start = (plain-fits, tt); header = header-kept; directive = directive-kept; macro = macro-kept; part = part-kept rate }
+kept mode rate = record { start = (plain-fits, tt); header = header-kept mode; directive = directive-kept mode; macro = macro-kept; part = part-kept rate }
 
 -- so it is with every accepted sheet
-lines-fit : (rate : ℕ) (source : List ℕ) (r : Read) → sheetRead rate source ≡ going r → Kept r
-lines-fit rate source r e = of-accepted Kept rate (kept rate) source r e
+lines-fit : (mode : Mode) (rate : ℕ) (source : List ℕ) (r : Read) → sheetRead mode rate source ≡ going r → Kept r
+lines-fit mode rate source r e = of-accepted Kept mode rate (kept mode rate) source r e
 
 -- ---- an instrument's commands are those of its lines
 
@@ -111,21 +112,21 @@ TreesValue ls =
 trees-value : (ls : List Line) → AllFit none 0 ls → TreesValue ls
 trees-value ls g s f d t = demand3-instrument f d t (instrumentOf ls) ls (list-of-lines ls) (g .indents) s
 
-pub demand3-sheet : (rate : ℕ) (source : List ℕ) (r : Read) → sheetRead rate source ≡ going r → Every TreesValue (r .instruments)
-demand3-sheet rate source r e =
-    every-maps (AllFit none 0) TreesValue trees-value (r .instruments) (lines-fit rate source r e)
+pub demand3-sheet : (mode : Mode) (rate : ℕ) (source : List ℕ) (r : Read) → sheetRead mode rate source ≡ going r → Every TreesValue (r .instruments)
+demand3-sheet mode rate source r e =
+    every-maps (AllFit none 0) TreesValue trees-value (r .instruments) (lines-fit mode rate source r e)
 
 -- the sheet that a source is read as has these instruments in its table, and then empty ones
-pub demand3-reading : (rate : ℕ) (source : List ℕ) (r : Read) → sheetRead rate source ≡ going r
-    → (readingOf rate source .sheet .table ≡ padded instrumentsMost (instrumentOf []) (map instrumentOf (r .instruments))) × Every TreesValue (r .instruments)
+pub demand3-reading : (mode : Mode) (rate : ℕ) (source : List ℕ) (r : Read) → sheetRead mode rate source ≡ going r
+    → (readingOf mode rate source .sheet .table ≡ padded instrumentsMost (instrumentOf []) (map instrumentOf (r .instruments))) × Every TreesValue (r .instruments)
 unfolding readingOf laidOut sheetOf
-demand3-reading rate source r e = (ap (λ (o : Outcome Read). laidOut o .sheet .table) e, demand3-sheet rate source r e)
+demand3-reading mode rate source r e = (ap (λ (o : Outcome Read). laidOut o .sheet .table) e, demand3-sheet mode rate source r e)
 
 -- ---- room
 
 -- every instrument of an accepted sheet fits its array of 64 commands
-pub commands-fit : (rate : ℕ) (source : List ℕ) (r : Read) → sheetRead rate source ≡ going r
+pub commands-fit : (mode : Mode) (rate : ℕ) (source : List ℕ) (r : Read) → sheetRead mode rate source ≡ going r
     → Every (λ (ls : List Line). length (commandsOf ls) ≤ commandsMost) (r .instruments)
-commands-fit rate source r e =
+commands-fit mode rate source r e =
     every-maps (AllFit none 0) (λ (ls : List Line). length (commandsOf ls) ≤ commandsMost) (λ ls g. omega (arith, commands-few ls, g .few)) (r .instruments)
-    (lines-fit rate source r e)
+    (lines-fit mode rate source r e)

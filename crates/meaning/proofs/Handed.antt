@@ -33,6 +33,7 @@ use Rattle.meaning.proofs.InstrumentsKept.{operators-pass, plain-passes
 use Rattle.meaning.proofs.Laid.{laid-instruments, laid-total, laid-notes, releases-laid, laid-length}
 use Rattle.meaning.proofs.Throughout.{KeptByLines, of-accepted}
 use Rattle.meaning.specs.Parts.{Played, notesOf, linePlayed}
+use Rattle.strict.specs.declared.mode.Mode.{Mode}
 use Rattle.meaning.specs.Sheets.{Read, readOf, plain, bookOf, headerRead, directiveRead, macroRead, partRead, nothingRead, linesRead, lengthRead, ended, sheetRead}
 use Rattle.meaning.specs.Layout.{sheetOf, laidOut, readingOf}
 
@@ -48,7 +49,7 @@ record Whole (rate : ℕ) (r : Read) : Type 0 where
   players : all instrumentPasses (made (r .instruments)) ≡ true
   parts : Filled (notePasses rate (made (r .instruments))) (r .parts)
 
-module _ (rate : ℕ) where
+module _ (mode : Mode) (rate : ℕ) where
   abbrev Good : Read → Type 0
   Good = Whole rate
 
@@ -72,13 +73,13 @@ module _ (rate : ℕ) where
       holds-unless _ _ _ _ _
       (λ e. holds-unless _ _ _ _ _ (λ f. holds-going (λ (n : List ℕ). length names + 1 < instrumentsMost) name (ltb-true (length names + 1) instrumentsMost f)))
 
-  header-kept : (line : ℕ) (name : List ℕ) (below : List (List ℕ)) (r : Read) → Good r → Holds Good (headerRead line name below r)
+  header-kept : (line : ℕ) (name : List ℕ) (below : List (List ℕ)) (r : Read) → Good r → Holds Good (headerRead mode line name below r)
   unfolding headerRead
   header-kept line name below r g =
       holds-then (λ (n : List ℕ). length (r .names) + 1 < instrumentsMost) Good (headerOf line name (r .names)) _ (header-room line name (r .names))
-      (λ n h. holds-then (λ (os : List Line). instrumentPasses (instrumentOf os) ≡ true) Good (operatorsRead none (line + 1) 0 (operatorLines below))
+      (λ n h. holds-then (λ (os : List Line). instrumentPasses (instrumentOf os) ≡ true) Good (operatorsRead mode none (line + 1) 0 (operatorLines below))
       (λ os. going (readOf (r .start) (r .parts) (r .macros) (r .names ++ (n ∷ [])) (r .instruments ++ (os ∷ [])) (r .steps)))
-      (operators-pass (line + 1) (operatorLines below))
+      (operators-pass mode (line + 1) (operatorLines below))
       (λ os k. holds-going Good _
       (record {
         named = omega (arith, g .named, length-append (r .instruments) (os ∷ []), length-append (r .names) (n ∷ []));
@@ -97,7 +98,7 @@ module _ (rate : ℕ) where
             };
       })))
 
-  directive-kept : (line : ℕ) (l : List ℕ) (r : Read) → Good r → Holds Good (directiveRead line l r)
+  directive-kept : (line : ℕ) (l : List ℕ) (r : Read) → Good r → Holds Good (directiveRead mode line l r)
   unfolding directiveRead
   directive-kept line l r g =
       holds-after _ _ _
@@ -136,7 +137,7 @@ module _ (rate : ℕ) where
       (line-kept test (bookOf rate r) (book-lets r) (r .start) line n (record { parts = r .parts; steps = r .steps }) (g .parts))
       (λ q h. holds-going Good _ (record { named = g .named; few = g .few; players = g .players; parts = h }))
 
-  kept : KeptByLines Good rate
+  kept : KeptByLines Good mode rate
   kept = record { start = begins; header = header-kept; directive = directive-kept; macro = macro-kept; part = part-kept }
 
   -- ---- the end
@@ -149,10 +150,10 @@ module _ (rate : ℕ) where
   ended-short r =
       holds-if _ _ _ _ _ (holds-if _ _ _ _ _ (holds-unless _ _ _ _ _ (λ e. holds-going Short r (leb-true (lengthRead rate r) sheetMost e))))
 
-  sheet-short : (source : List ℕ) → Holds Short (sheetRead rate source)
+  sheet-short : (source : List ℕ) → Holds Short (sheetRead mode rate source)
   unfolding sheetRead
   sheet-short source =
-      holds-unless _ _ _ _ _ (λ e. holds-unless _ _ _ _ _ (λ f. holds-after Short (linesRead rate 0 1 (linesOf source) nothingRead) _ (λ r. ended-short r)))
+      holds-unless _ _ _ _ _ (λ e. holds-unless _ _ _ _ _ (λ f. holds-after Short (linesRead mode rate 0 1 (linesOf source) nothingRead) _ (λ r. ended-short r)))
 
   -- ---- what is accepted passes
 
@@ -173,22 +174,22 @@ module _ (rate : ℕ) where
         length = omega (arith, laid-length rate r, s);
       }
 
-  module _ (source : List ℕ) (r : Read) (e : sheetRead rate source ≡ going r) where
+  module _ (source : List ℕ) (r : Read) (e : sheetRead mode rate source ≡ going r) where
     pub accepted-passes : isSheet rate (sheetOf (r .parts) (r .instruments)) ≡ true
     accepted-passes =
         passes rate (sheetOf (r .parts) (r .instruments))
-        (whole-passes r (of-accepted Good rate kept source r e) (holds-of Short r (subst (Holds Short) e (sheet-short source))))
+        (whole-passes r (of-accepted Good mode rate kept source r e) (holds-of Short r (subst (Holds Short) e (sheet-short source))))
 
-    reading-sheet : readingOf rate source .sheet ≡ sheetOf (r .parts) (r .instruments)
+    reading-sheet : readingOf mode rate source .sheet ≡ sheetOf (r .parts) (r .instruments)
     unfolding readingOf laidOut
     reading-sheet = ap (λ (o : Outcome Read). laidOut o .sheet) e
 
     -- the sheet that a source is read as
-    pub reading-passes : isSheet rate (readingOf rate source .sheet) ≡ true
+    pub reading-passes : isSheet rate (readingOf mode rate source .sheet) ≡ true
     reading-passes = ap (isSheet rate) reading-sheet ∙ accepted-passes
 
     -- has the length that 27 looks at
-    pub reading-length : lengthOf rate (readingOf rate source .sheet) ≡ lengthRead rate r
+    pub reading-length : lengthOf rate (readingOf mode rate source .sheet) ≡ lengthRead rate r
     reading-length = ap (lengthOf rate) reading-sheet ∙ laid-length rate r
 
   -- the empty sheet of a refusal passes too

@@ -29,7 +29,8 @@ use Rattle.sheet.specs.Capacities.{commandsMost, feedbackMost}
 use Rattle.sheet.specs.Padding.{padded}
 use Rattle.sheet.specs.Refusals.{Outcome, going, refused}
 use Rattle.sheet.proofs.Basics.{both, false-true}
-use Rattle.sheet.proofs.Holds.{Holds, holds-going, holds-refused, holds-unless, holds-then, holds-after}
+use Rattle.sheet.proofs.Holds.{Holds, holds-going, holds-refused, holds-unless, holds-if, holds-then, holds-after}
+use Rattle.strict.specs.declared.mode.Mode.{Mode}
 use Rattle.operators.specs.OperatorLines.{indentOf, operatorOf, readable, numbersRead, feedbackRead, operatorRead, operatorsRead}
 use Rattle.operators.proofs.Indents.{holds-indented, AllFit, all-fit}
 use Rattle.commands.specs.Commands.{noCommand, instrumentOf}
@@ -61,24 +62,25 @@ readable-time line t TooLong e = holds-refused _ _ _
 abbrev Numbers : ℕ → List Float → Type 0
 Numbers n xs = (length xs ≡ n) × Times xs
 
-numbers-times : (line : ℕ) (ts : List (List ℕ)) → Holds (Numbers (length ts)) (numbersRead line ts)
+numbers-times : (mode : Mode) (line : ℕ) (ts : List (List ℕ)) → Holds (Numbers (length ts)) (numbersRead mode line ts)
 unfolding numbersRead
-numbers-times line [] = holds-going (Numbers 0) [] (refl, tt)
-numbers-times line (t ∷ ts) =
+numbers-times mode line [] = holds-going (Numbers 0) [] (refl, tt)
+numbers-times mode line (t ∷ ts) =
     holds-then (λ (x : Float). T (isTime x)) (Numbers (suc (length ts))) (readable line (decimalAt t 0)) _ (readable-time line t (decimalAt t 0) refl)
-    (λ x h. holds-then (Numbers (length ts)) (Numbers (suc (length ts))) (numbersRead line ts) _ (numbers-times line ts)
-    (λ xs k. holds-going (Numbers (suc (length ts))) (x ∷ xs) (ap suc (k .0), (h, k .1))))
+    (λ x h. holds-if _ _ _ _ _
+    (holds-then (Numbers (length ts)) (Numbers (suc (length ts))) (numbersRead mode line ts) _ (numbers-times mode line ts)
+    (λ xs k. holds-going (Numbers (suc (length ts))) (x ∷ xs) (ap suc (k .0), (h, k .1)))))
 
 time-at : (xs : List Float) (i : ℕ) → i < length xs → Times xs → T (isTime (getD xs i nan))
 time-at [] i h t = absurd (omega (arith, h))
 time-at (x ∷ xs) zero h t = t .0
 time-at (x ∷ xs) (suc i) h t = time-at xs i (omega (arith, h)) (t .1)
 
-feedback-most : (line : ℕ) (ts : List (List ℕ)) → Holds (λ (f : ℕ). f ≤ feedbackMost) (feedbackRead line ts)
+feedback-most : (mode : Mode) (line : ℕ) (ts : List (List ℕ)) → Holds (λ (f : ℕ). f ≤ feedbackMost) (feedbackRead mode line ts)
 unfolding feedbackRead
-feedback-most line [] = holds-going (λ (f : ℕ). f ≤ feedbackMost) 0 (omega arith)
-feedback-most line (t ∷ ts) =
-    holds-after _ _ _ (λ v. holds-unless _ _ _ _ _ (λ e. holds-going (λ (f : ℕ). f ≤ feedbackMost) v (leb-true v feedbackMost e)))
+feedback-most mode line [] = holds-going (λ (f : ℕ). f ≤ feedbackMost) 0 (omega arith)
+feedback-most mode line (t ∷ ts) =
+    holds-after _ _ _ (λ v. holds-unless _ _ _ _ _ (λ e. holds-if _ _ _ _ _ (holds-going (λ (f : ℕ). f ≤ feedbackMost) v (leb-true v feedbackMost e))))
 
 -- what a line has
 pub record Lasts (l : Line) : Type 0 where
@@ -94,14 +96,14 @@ six n e = go (eqb n 6) (eqb n 7) refl refl e
     go false true p q t = omega (arith, eqb-true n 7 q)
     go false false p q t = false-true t
 
-one-lasts : (line : ℕ) (before : Option ℕ) (above : ℕ) (l : List ℕ) → Holds Lasts (operatorRead line before above l)
+one-lasts : (mode : Mode) (line : ℕ) (before : Option ℕ) (above : ℕ) (l : List ℕ) → Holds Lasts (operatorRead mode line before above l)
 unfolding operatorRead operatorOf
-one-lasts line before above l =
+one-lasts mode line before above l =
     let ts = tokensOf l in
     holds-indented _ line before (indentOf l) _
     (λ e. holds-unless _ _ _ _ _
-    (λ t. holds-then (Numbers (length (take 6 ts))) Lasts (numbersRead line (take 6 ts)) _ (numbers-times line (take 6 ts))
-    (λ xs n. holds-then (λ (f : ℕ). f ≤ feedbackMost) Lasts (feedbackRead line (drop 6 ts)) _ (feedback-most line (drop 6 ts))
+    (λ t. holds-then (Numbers (length (take 6 ts))) Lasts (numbersRead mode line (take 6 ts)) _ (numbers-times mode line (take 6 ts))
+    (λ xs n. holds-then (λ (f : ℕ). f ≤ feedbackMost) Lasts (feedbackRead mode line (drop 6 ts)) _ (feedback-most mode line (drop 6 ts))
     (λ f h. holds-unless _ _ _ _ _
     (λ u. holds-going Lasts _
     (record { release = time-at xs 5 (omega (arith, n .0, length-take-le 6 ts (six (length ts) t))) (n .1); feedback = h }))))))
@@ -111,13 +113,13 @@ abbrev pub AllLast : List Line → Type 0
 AllLast [] = Unit
 AllLast (l ∷ ls) = Lasts l × AllLast ls
 
-all-last : (before : Option ℕ) (line above : ℕ) (ls : List (List ℕ)) → Holds AllLast (operatorsRead before line above ls)
+all-last : (mode : Mode) (before : Option ℕ) (line above : ℕ) (ls : List (List ℕ)) → Holds AllLast (operatorsRead mode before line above ls)
 unfolding operatorsRead
-all-last before line above [] = holds-going AllLast [] tt
-all-last before line above (l ∷ ls) =
-    holds-then Lasts AllLast (operatorRead line before above l) _ (one-lasts line before above l)
-    (λ o g. holds-then AllLast AllLast (operatorsRead (some (o .indent)) (line + 1) (above + 1) ls) _
-    (all-last (some (o .indent)) (line + 1) (above + 1) ls) (λ os k. holds-going AllLast (o ∷ os) (g, k)))
+all-last mode before line above [] = holds-going AllLast [] tt
+all-last mode before line above (l ∷ ls) =
+    holds-then Lasts AllLast (operatorRead mode line before above l) _ (one-lasts mode line before above l)
+    (λ o g. holds-then AllLast AllLast (operatorsRead mode (some (o .indent)) (line + 1) (above + 1) ls) _
+    (all-last mode (some (o .indent)) (line + 1) (above + 1) ls) (λ os k. holds-going AllLast (o ∷ os) (g, k)))
 
 -- ---- their release
 
@@ -182,10 +184,10 @@ instrument-passes ls g k =
     (slots-pass cs (commands-pass ls k))
 
 -- and so does every instrument that is read
-pub operators-pass : (line : ℕ) (ls : List (List ℕ)) → Holds (λ (os : List Line). instrumentPasses (instrumentOf os) ≡ true) (operatorsRead none line 0 ls)
-operators-pass line ls =
-    holds-both (AllFit none 0) AllLast (λ (os : List Line). instrumentPasses (instrumentOf os) ≡ true) (operatorsRead none line 0 ls)
-    (all-fit none line 0 ls (omega arith)) (all-last none line 0 ls) (λ os g k. instrument-passes os g k)
+pub operators-pass : (mode : Mode) (line : ℕ) (ls : List (List ℕ)) → Holds (λ (os : List Line). instrumentPasses (instrumentOf os) ≡ true) (operatorsRead mode none line 0 ls)
+operators-pass mode line ls =
+    holds-both (AllFit none 0) AllLast (λ (os : List Line). instrumentPasses (instrumentOf os) ≡ true) (operatorsRead mode none line 0 ls)
+    (all-fit mode none line 0 ls (omega arith)) (all-last mode none line 0 ls) (λ os g k. instrument-passes os g k)
 
 pub plain-passes : instrumentPasses (instrumentOf plain) ≡ true
 unfolding instrumentPasses instrumentOf padded releaseOf commandsOf lt

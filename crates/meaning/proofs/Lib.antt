@@ -5,7 +5,10 @@ pub mod Handed
 pub mod InstrumentsKept
 pub mod Laid
 pub mod NotesKept
+pub mod Partings
 pub mod PartsKept
 pub mod Starred
 pub mod StepCount
+pub mod StrictExamples
+pub mod StrictNumbers
 pub mod Throughout

@@ -10,6 +10,7 @@ use Rattle.instrument.specs.declared.machine.Command.{Command}
 use Rattle.instrument.specs.declared.machine.Command.the-variants as Command
 use Rattle.sheet.specs.declared.note.Note.{Note}
 use Rattle.sheet.specs.Refusals.{Outcome, going, refused, _>>=_, _>>_, refuse_on_unless_, refuse_on_if_, refuse_on_without_}
+use Rattle.strict.specs.declared.mode.Mode.the-variants.{Plain}
 use Rattle.meaning.proofs.Answers.{Answer, answer}
 
 -- a note of 0.6 seconds, a quarter at tempo 100, on the default instrument: its amplitude and its frequency by their bits
@@ -61,6 +62,6 @@ table =
     ∷ ("@i\n1 1 0 0 1 0\n\t\t2 1 0 0 1 0", refused 16 3)
     ∷ []
 
-pub starred : map (λ (row : String × Outcome Answer). answer (row .0)) table ≡ map (λ (row : String × Outcome Answer). row .1) table
+pub starred : map (λ (row : String × Outcome Answer). answer Plain (row .0)) table ≡ map (λ (row : String × Outcome Answer). row .1) table
 unfolding table answer _>>=_ _>>_ refuse_on_unless_ refuse_on_if_ refuse_on_without_ round add sub mul div lt ofBits ofInt
 starred = refl

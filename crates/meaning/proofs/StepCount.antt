@@ -14,19 +14,20 @@ use Rattle.part.specs.Body.{Book, bodyRead}
 use Rattle.part.proofs.StepCount.{Counted, body-counted}
 use Rattle.meaning.proofs.Throughout.{KeptByLines, of-accepted}
 use Rattle.meaning.specs.Parts.{Played, notesOf, partNamed, withPartNamed, partOf, linePlayed}
+use Rattle.strict.specs.declared.mode.Mode.{Mode}
 use Rattle.meaning.specs.Sheets.{Read, readOf, bookOf, headerRead, directiveRead, macroRead, partRead, nothingRead, sheetRead}
 
 -- no more than the limit
 abbrev Kept : Read → Type 0
 Kept r = r .steps ≤ stepsMost
 
-header-kept : (line : ℕ) (name : List ℕ) (below : List (List ℕ)) (r : Read) → Kept r → Holds Kept (headerRead line name below r)
+header-kept : (mode : Mode) (line : ℕ) (name : List ℕ) (below : List (List ℕ)) (r : Read) → Kept r → Holds Kept (headerRead mode line name below r)
 unfolding headerRead
-header-kept line name below r g = holds-after _ _ _ (λ n. holds-after _ _ _ (λ os. holds-going Kept _ g))
+header-kept mode line name below r g = holds-after _ _ _ (λ n. holds-after _ _ _ (λ os. holds-going Kept _ g))
 
-directive-kept : (line : ℕ) (l : List ℕ) (r : Read) → Kept r → Holds Kept (directiveRead line l r)
+directive-kept : (mode : Mode) (line : ℕ) (l : List ℕ) (r : Read) → Kept r → Holds Kept (directiveRead mode line l r)
 unfolding directiveRead
-directive-kept line l r g = holds-after _ _ _ (λ f. holds-going Kept _ g)
+directive-kept mode line l r g = holds-after _ _ _ (λ f. holds-going Kept _ g)
 
 macro-kept : (line : ℕ) (l : List ℕ) (r : Read) → Kept r → Holds Kept (macroRead line l r)
 unfolding macroRead
@@ -55,9 +56,9 @@ part-kept rate line n r g =
     (played-few (bookOf rate r) (r .start) line n (record { parts = r .parts; steps = r .steps }) g)
     (λ q h. holds-going Kept _ h)
 
-kept : (rate : ℕ) → KeptByLines Kept rate
+kept : (mode : Mode) (rate : ℕ) → KeptByLines Kept mode rate
 unfolding nothingRead
-kept rate = record { start = omega arith; header = header-kept; directive = directive-kept; macro = macro-kept; part = part-kept rate }
+kept mode rate = record { start = omega arith; header = header-kept mode; directive = directive-kept mode; macro = macro-kept; part = part-kept rate }
 
-pub steps-most : (rate : ℕ) (source : List ℕ) (r : Read) → sheetRead rate source ≡ going r → r .steps ≤ stepsMost
-steps-most rate source r e = of-accepted Kept rate (kept rate) source r e
+pub steps-most : (mode : Mode) (rate : ℕ) (source : List ℕ) (r : Read) → sheetRead mode rate source ≡ going r → r .steps ≤ stepsMost
+steps-most mode rate source r e = of-accepted Kept mode rate (kept mode rate) source r e

@@ -9,6 +9,7 @@ use Rattle.sheet.specs.Padding.{padded, silence}
 use Rattle.sheet.specs.declared.sheet.Sheet.{Sheet}
 use Rattle.sheet.specs.Capacities.{partsMost, notesMost, instrumentsMost}
 use Rattle.sheet.specs.Refusals.{Outcome, going, refused}
+use Rattle.strict.specs.declared.mode.Mode.{Mode}
 use Rattle.meaning.specs.declared.reading.Reading.{Reading}
 use Rattle.meaning.specs.Parts.{NamedPart, notesOf}
 use Rattle.meaning.specs.Sheets.{Read, sheetRead}
@@ -31,7 +32,7 @@ unfolding sheetOf
 laidOut (going r) = record { refusal = 0; line = 0; steps = r .steps; sheet = sheetOf (r .parts) (r .instruments) }
 laidOut (refused n l) = record { refusal = n; line = l; steps = 0; sheet = sheetOf [] [] }
 
--- what a source is read as, its notes counted at a rate
-unfoldable pub readingOf : ℕ → List ℕ → Reading
+-- what a source is read as in a mode, its notes counted at a rate
+unfoldable pub readingOf : Mode → ℕ → List ℕ → Reading
 unfolding laidOut sheetRead
-readingOf rate source = laidOut (sheetRead rate source)
+readingOf mode rate source = laidOut (sheetRead mode rate source)

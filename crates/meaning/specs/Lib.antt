@@ -1,3 +1,4 @@
+pub mod Before
 pub mod Layout
 pub mod Parts
 pub mod Sheets

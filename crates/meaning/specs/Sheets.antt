@@ -14,6 +14,7 @@ use Rattle.lines.specs.Tokens.{Named, namedOf}
 use Rattle.instrument.specs.Lines.{Line, releaseOf}
 use Rattle.sheet.specs.Capacities.{sourceMost, sheetMost}
 use Rattle.sheet.specs.Refusals.{Outcome, going, _>>=_, _>>_, refuse_on_unless_, refuse_on_if_}
+use Rattle.strict.specs.declared.mode.Mode.{Mode}
 use Rattle.environment.specs.declared.environment.Environment.{Environment}
 use Rattle.environment.specs.Environment.{atTheStart}
 use Rattle.operators.specs.OperatorLines.{operatorLines, operatorsRead}
@@ -59,20 +60,20 @@ bookOf rate r = record { macros = r .macros; names = r .names; releases = map re
 -- ---- instruments
 
 -- "`@` opens an instrument, its name the entire line, trailing blanks included."; "Instrument header: 3, 21."
-unfoldable pub headerRead : ℕ → List ℕ → List (List ℕ) → Read → Outcome Read
+unfoldable pub headerRead : Mode → ℕ → List ℕ → List (List ℕ) → Read → Outcome Read
 unfolding headerOf operatorLines operatorsRead
-headerRead line name below r = do
+headerRead mode line name below r = do
   n ← headerOf line name (r .names)
-  os ← operatorsRead none (line + 1) 0 (operatorLines below)
+  os ← operatorsRead mode none (line + 1) 0 (operatorLines below)
   going (readOf (r .start) (r .parts) (r .macros) (r .names ++ (n ∷ [])) (r .instruments ++ (os ∷ [])) (r .steps))
 
 -- ---- directives
 
 -- "A directive changes the starting environment and every existing part's."; "Directive: 7 for tokens, 6, then value."
-unfoldable pub directiveRead : ℕ → List ℕ → Read → Outcome Read
+unfoldable pub directiveRead : Mode → ℕ → List ℕ → Read → Outcome Read
 unfolding directiveOf everyPart
-directiveRead line l r = do
-  f ← directiveOf line l
+directiveRead mode line l r = do
+  f ← directiveOf mode line l
   going (readOf (f (r .start)) (everyPart f (r .parts)) (r .macros) (r .names) (r .instruments) (r .steps))
 
 -- ---- macros
@@ -105,14 +106,14 @@ unfolding rowOf
 kindOf [] = skipped
 kindOf (b ∷ s) = rowOf b partLine ((";", skipped) ∷ ("@", headerLine) ∷ ("#", directiveLine) ∷ ("!", macroLine) ∷ [])
 
--- what a line of a kind does, with the lines below it
-unfoldable pub lineRead : ℕ → Kind → ℕ → List ℕ → List (List ℕ) → Read → Outcome Read
+-- what a line of a kind does, with the lines below it; strict mode asks more of operator lines and of directives, and of nothing else
+unfoldable pub lineRead : Mode → ℕ → Kind → ℕ → List ℕ → List (List ℕ) → Read → Outcome Read
 unfolding headerRead directiveRead macroRead partRead namedOf
-lineRead rate skipped line l below r = going r
-lineRead rate headerLine line l below r = headerRead line l below r
-lineRead rate directiveLine line l below r = directiveRead line l r
-lineRead rate macroLine line l below r = macroRead line l r
-lineRead rate partLine line l below r = partRead rate line (namedOf l) r
+lineRead mode rate skipped line l below r = going r
+lineRead mode rate headerLine line l below r = headerRead mode line l below r
+lineRead mode rate directiveLine line l below r = directiveRead mode line l r
+lineRead mode rate macroLine line l below r = macroRead line l r
+lineRead mode rate partLine line l below r = partRead rate line (namedOf l) r
 
 -- how many of the lines below it a line takes
 unfoldable pub takenBy : Kind → List (List ℕ) → ℕ
@@ -124,13 +125,13 @@ takenBy macroLine below = 0
 takenBy partLine below = 0
 
 -- the lines from a given one on, of which the first k are passed over, since they belong to the instrument above them
-unfoldable pub linesRead : ℕ → ℕ → ℕ → List (List ℕ) → Read → Outcome Read
+unfoldable pub linesRead : Mode → ℕ → ℕ → ℕ → List (List ℕ) → Read → Outcome Read
 unfolding kindOf lineRead takenBy
-linesRead rate k line [] r = going r
-linesRead rate (suc k) line (l ∷ ls) r = linesRead rate k (line + 1) ls r
-linesRead rate zero line (l ∷ ls) r = do
-  q ← lineRead rate (kindOf l) line l ls r
-  linesRead rate (takenBy (kindOf l) ls) (line + 1) ls q
+linesRead mode rate k line [] r = going r
+linesRead mode rate (suc k) line (l ∷ ls) r = linesRead mode rate k (line + 1) ls r
+linesRead mode rate zero line (l ∷ ls) r = do
+  q ← lineRead mode rate (kindOf l) line l ls r
+  linesRead mode rate (takenBy (kindOf l) ls) (line + 1) ls q
 
 -- ---- the end
 
@@ -163,11 +164,11 @@ unfoldable pub allBelow128 : List ℕ → Bool
 allBelow128 [] = true
 allBelow128 (b ∷ s) = ltb b 128 && allBelow128 s
 
--- what a source is read as, its notes counted at a rate
-unfoldable pub sheetRead : ℕ → List ℕ → Outcome Read
+-- what a source is read as in a mode, "chosen per sheet", its notes counted at a rate
+unfoldable pub sheetRead : Mode → ℕ → List ℕ → Outcome Read
 unfolding allBelow128 linesOf linesRead nothingRead ended
-sheetRead rate source = do
+sheetRead mode rate source = do
   refuse 1 on 0 unless (leb (length source) sourceMost)
   refuse 2 on 0 unless (allBelow128 source)
-  r ← linesRead rate 0 1 (linesOf source) nothingRead
+  r ← linesRead mode rate 0 1 (linesOf source) nothingRead
   ended rate r

@@ -46,3 +46,9 @@ begun at (d ∷ ds) rest = ended at (d ∷ ds) rest
 unfoldable pub decimalAt : List ℕ → ℕ → Decimal
 unfolding front after isDigit begun
 decimalAt s at = begun at (front isDigit (drop at s)) (after isDigit (drop at s))
+
+-- where the reading of a text from its start stopped: behind the decimal, or at the start where there is none
+unfoldable pub decimalWidth : Decimal → ℕ
+decimalWidth (Value x next) = next
+decimalWidth Unreadable = 0
+decimalWidth TooLong = 0

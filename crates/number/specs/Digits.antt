@@ -39,3 +39,8 @@ intOf limit at (d ∷ ds) =
 unfoldable pub intAt : ℕ → List ℕ → ℕ → Int
 unfolding front isDigit intOf
 intAt limit s at = intOf limit at (front isDigit (drop at s))
+
+-- where the reading of a text from its start stopped: behind the digit run, or at the start where there is none
+unfoldable pub intWidth : Int → ℕ
+intWidth (Number v next) = next
+intWidth Absent = 0

@@ -12,6 +12,7 @@ use Rattle.instrument.specs.Lines.{Line, indentRefusal, accepted}
 use Rattle.sheet.specs.Capacities.{operatorsMost}
 use Rattle.sheet.specs.Refusals.{Outcome, going, refused, _>>_}
 use Rattle.sheet.proofs.Holds.{Holds, holds-going, holds-unless, holds-then, holds-after}
+use Rattle.strict.specs.declared.mode.Mode.{Mode}
 use Rattle.operators.specs.OperatorLines.{indented, indentOf, operatorRead, operatorsRead}
 
 -- behind the test of an indent
@@ -29,9 +30,9 @@ pub record Fits (before : Option ℕ) (above : ℕ) (o : Line) : Type 0 where
   pub indent : indentRefusal before (o .indent) ≡ 0
   pub room : above < operatorsMost
 
-pub one-fits : (line : ℕ) (before : Option ℕ) (above : ℕ) (l : List ℕ) → Holds (Fits before above) (operatorRead line before above l)
+pub one-fits : (mode : Mode) (line : ℕ) (before : Option ℕ) (above : ℕ) (l : List ℕ) → Holds (Fits before above) (operatorRead mode line before above l)
 unfolding operatorRead
-one-fits line before above l =
+one-fits mode line before above l =
     holds-indented _ line before (indentOf l) _
     (λ e. holds-unless _ _ _ _ _
     (λ t. holds-after _ _ _
@@ -43,12 +44,12 @@ pub record AllFit (before : Option ℕ) (above : ℕ) (os : List Line) : Type 0 
   pub indents : T (accepted before os)
   pub few : above + length os ≤ operatorsMost
 
-pub all-fit : (before : Option ℕ) (line above : ℕ) (ls : List (List ℕ)) → above ≤ operatorsMost → Holds (AllFit before above) (operatorsRead before line above ls)
+pub all-fit : (mode : Mode) (before : Option ℕ) (line above : ℕ) (ls : List (List ℕ)) → above ≤ operatorsMost → Holds (AllFit before above) (operatorsRead mode before line above ls)
 unfolding operatorsRead accepted
-all-fit before line above [] h = holds-going (AllFit before above) [] (record { indents = tt; few = omega arith })
-all-fit before line above (l ∷ ls) h =
-    holds-then (Fits before above) (AllFit before above) (operatorRead line before above l) _ (one-fits line before above l)
-    (λ o g. holds-then (AllFit (some (o .indent)) (above + 1)) (AllFit before above) (operatorsRead (some (o .indent)) (line + 1) (above + 1) ls) _
-    (all-fit (some (o .indent)) (line + 1) (above + 1) ls (omega (arith, g .room)))
+all-fit mode before line above [] h = holds-going (AllFit before above) [] (record { indents = tt; few = omega arith })
+all-fit mode before line above (l ∷ ls) h =
+    holds-then (Fits before above) (AllFit before above) (operatorRead mode line before above l) _ (one-fits mode line before above l)
+    (λ o g. holds-then (AllFit (some (o .indent)) (above + 1)) (AllFit before above) (operatorsRead mode (some (o .indent)) (line + 1) (above + 1) ls) _
+    (all-fit mode (some (o .indent)) (line + 1) (above + 1) ls (omega (arith, g .room)))
     (λ os k. holds-going (AllFit before above) (o ∷ os)
     (record { indents = and-i (eqb (indentRefusal before (o .indent)) 0) (accepted (some (o .indent)) os) (eq→eqb (g .indent)) (k .indents); few = omega (arith, k .few) })))

@@ -15,12 +15,14 @@ use Rattle.number.specs.declared.digits.Int.{Int}
 use Rattle.number.specs.declared.digits.Int.the-variants.{Number, Absent}
 use Rattle.number.specs.declared.decimal.Decimal.{Decimal}
 use Rattle.number.specs.declared.decimal.Decimal.the-variants.{Value, Unreadable, TooLong}
-use Rattle.number.specs.Digits.{valueMost, intAt}
-use Rattle.number.specs.Decimal.{decimalAt}
+use Rattle.number.specs.Digits.{valueMost, intAt, intWidth}
+use Rattle.number.specs.Decimal.{decimalAt, decimalWidth}
 use Rattle.instrument.specs.declared.operator.Operator.{Operator}
 use Rattle.instrument.specs.Lines.{Line, indentRefusal}
 use Rattle.sheet.specs.Capacities.{operatorsMost, feedbackMost}
 use Rattle.sheet.specs.Refusals.{Outcome, going, refused, _>>=_, _>>_, refuse_on_unless_}
+use Rattle.strict.specs.declared.mode.Mode.{Mode}
+use Rattle.strict.specs.Strict.{readToItsEnd}
 
 -- ---- which lines
 
@@ -72,27 +74,31 @@ module _ (line : ℕ) where
   readable Unreadable = refused 18 line
   readable TooLong = refused 19 line
 
-  -- "numbers left to right"; "What follows is ignored in an operator token"
-  unfoldable pub numbersRead : List (List ℕ) → Outcome (List Float)
-  unfolding readable decimalAt
-  numbersRead [] = going []
-  numbersRead (t ∷ ts) = do
-    x ← readable (decimalAt t 0)
-    xs ← numbersRead ts
-    going (x ∷ xs)
-
   -- "18 if absent or over 4,294,967,295"
   unfoldable pub present : Int → Outcome ℕ
   present (Number v next) = going v
   present Absent = refused 18 line
 
-  -- "Feedback is a digit run: 18 if absent or over 4,294,967,295, else 20 if over 255."; where there is no seventh token it is 0
+module _ (mode : Mode) (line : ℕ) where
+  -- "numbers left to right"; "What follows is ignored in an operator token" in plain mode, and is 32 in strict mode, "right after 18, 19"
+  unfoldable pub numbersRead : List (List ℕ) → Outcome (List Float)
+  unfolding readable decimalAt readToItsEnd decimalWidth
+  numbersRead [] = going []
+  numbersRead (t ∷ ts) = do
+    x ← readable line (decimalAt t 0)
+    readToItsEnd mode line t (decimalWidth (decimalAt t 0))
+    xs ← numbersRead ts
+    going (x ∷ xs)
+
+  -- "Feedback is a digit run: 18 if absent or over 4,294,967,295, else 20 if over 255.", and "right after .. 20" 32 in strict mode; where there is no
+  -- seventh token it is 0
   unfoldable pub feedbackRead : List (List ℕ) → Outcome ℕ
-  unfolding present intAt
+  unfolding present intAt readToItsEnd intWidth
   feedbackRead [] = going 0
   feedbackRead (t ∷ ts) = do
-    v ← present (intAt valueMost t 0)
+    v ← present line (intAt valueMost t 0)
     refuse 20 on line unless (leb v feedbackMost)
+    readToItsEnd mode line t (intWidth (intAt valueMost t 0))
     going v
 
   -- "Operator line: 15, 16, 17, then numbers left to right (18 before 19), 20, 21."; so many operators stand above it
@@ -100,7 +106,7 @@ module _ (line : ℕ) where
   unfolding indented indentOf tokensOf numbersRead feedbackRead operatorOf
   operatorRead before above l = do
     let ts = tokensOf l
-    indented before (indentOf l)
+    indented line before (indentOf l)
     refuse 17 on line unless (eqb (length ts) 6 || eqb (length ts) 7)
     xs ← numbersRead (take 6 ts)
     f ← feedbackRead (drop 6 ts)
@@ -110,10 +116,10 @@ module _ (line : ℕ) where
 -- ---- all lines of an instrument
 
 -- "Lines are read downward": the operators of lines from a given one on, below a line of the given indent, if there is one
-unfoldable pub operatorsRead : Option ℕ → ℕ → ℕ → List (List ℕ) → Outcome (List Line)
+unfoldable pub operatorsRead : Mode → Option ℕ → ℕ → ℕ → List (List ℕ) → Outcome (List Line)
 unfolding operatorRead
-operatorsRead before line above [] = going []
-operatorsRead before line above (l ∷ ls) = do
-  o ← operatorRead line before above l
-  os ← operatorsRead (some (o .indent)) (line + 1) (above + 1) ls
+operatorsRead mode before line above [] = going []
+operatorsRead mode before line above (l ∷ ls) = do
+  o ← operatorRead mode line before above l
+  os ← operatorsRead mode (some (o .indent)) (line + 1) (above + 1) ls
   going (o ∷ os)

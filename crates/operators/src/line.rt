@@ -15,6 +15,8 @@ use number::decimal::Decimal;
 use number::decimal::eat_float;
 use number::digits::Int;
 use number::digits::eat_int;
+use strict::mode::Mode;
+use strict::mode::has_tail;
 use text::blanks::blanks_end;
 use text::blanks::ink_end;
 
@@ -98,16 +100,19 @@ fn tokens(text: &[u8]) -> usize
     count
 }
 
-// The number of the token behind the place `at`.
-fn number_at(text: &[u8], at: usize) -> Number
+// The number of the token behind the place `at`; 32 for a tail comes before the next token is looked at.
+fn number_at(text: &[u8], at: usize, mode: Mode) -> Number
     requires { ⌜ 0 < length (tokensOf (drop at (now text))) ⌝ }
-    ensures { λ r. ⌜ Numbered (now (text .entry)) at r ⌝ }
+    ensures { λ r. ⌜ Numbered mode (now (text .entry)) at r ⌝ }
 {
     let from = blanks_end(text, at);
     let d = eat_float(text, from);
     match d {
         Decimal::Value(x, next) => {
             let end = ink_end(text, next);
+            if has_tail(mode, next, end) {
+                return Number::Refused(32);
+            }
             return Number::Is(x, end);
         }
         Decimal::Unreadable => {
@@ -120,23 +125,23 @@ fn number_at(text: &[u8], at: usize) -> Number
 }
 
 // The numbers of three tokens behind the place `at`.
-fn three_at(text: &[u8], at: usize) -> Three
+fn three_at(text: &[u8], at: usize, mode: Mode) -> Three
     requires { ⌜ 3 ≤ length (tokensOf (drop at (now text))) ⌝ }
-    ensures { λ r. ⌜ Tripled (now (text .entry)) at r ⌝ }
+    ensures { λ r. ⌜ Tripled mode (now (text .entry)) at r ⌝ }
 {
-    let first = number_at(text, at);
+    let first = number_at(text, at, mode);
     match first {
         Number::Refused(n) => {
             return Three::Refused(n);
         }
         Number::Is(x, behind_x) => {
-            let second = number_at(text, behind_x);
+            let second = number_at(text, behind_x, mode);
             match second {
                 Number::Refused(n) => {
                     return Three::Refused(n);
                 }
                 Number::Is(y, behind_y) => {
-                    let third = number_at(text, behind_y);
+                    let third = number_at(text, behind_y, mode);
                     match third {
                         Number::Refused(n) => {
                             return Three::Refused(n);
@@ -152,17 +157,17 @@ fn three_at(text: &[u8], at: usize) -> Three
 }
 
 // The numbers of a line's first six tokens.
-fn six_numbers(text: &[u8]) -> Six
+fn six_numbers(text: &[u8], mode: Mode) -> Six
     requires { ⌜ 6 ≤ length (tokensOf (now text)) ⌝ }
-    ensures { λ r. ⌜ Sixfold (now (text .entry)) r ⌝ }
+    ensures { λ r. ⌜ Sixfold mode (now (text .entry)) r ⌝ }
 {
-    let front = three_at(text, 0);
+    let front = three_at(text, 0, mode);
     match front {
         Three::Refused(n) => {
             return Six::Refused(n);
         }
         Three::Are(amplitude, freqratio, attack, behind) => {
-            let back = three_at(text, behind);
+            let back = three_at(text, behind, mode);
             match back {
                 Three::Refused(n) => {
                     return Six::Refused(n);
@@ -188,8 +193,8 @@ fn six_numbers(text: &[u8]) -> Six
 }
 
 // The feedback of the token behind the place `at`: 0 where there is none.
-fn feedback_at(text: &[u8], at: usize) -> Feedback
-    ensures { λ r. ⌜ ((line : ℕ) → feedbackOutcome line r ≡ feedbackRead line (tokensOf (drop at (now (text .entry))))) ⌝ }
+fn feedback_at(text: &[u8], at: usize, mode: Mode) -> Feedback
+    ensures { λ r. ⌜ ((line : ℕ) → feedbackOutcome line r ≡ feedbackRead mode line (tokensOf (drop at (now (text .entry))))) ⌝ }
 {
     let from = blanks_end(text, at);
     if from >= text.len() {
@@ -197,9 +202,13 @@ fn feedback_at(text: &[u8], at: usize) -> Feedback
     }
     let d = eat_int(text, from, 4294967295);
     match d {
-        Int::Number(v, _) => {
+        Int::Number(v, next) => {
             if v > 255 {
                 return Feedback::Refused(20);
+            }
+            let end = ink_end(text, next);
+            if has_tail(mode, next, end) {
+                return Feedback::Refused(32);
             }
             let rounds = v as u32;
             return Feedback::Is(rounds);
@@ -211,10 +220,17 @@ fn feedback_at(text: &[u8], at: usize) -> Feedback
 }
 
 // The line of so many tabs whose six numbers are read, with the feedback behind the place `at`.
-fn finished(text: &[u8], at: usize, tabs: usize, above: usize, numbers: Operator) -> OperatorLine
-    ensures { λ r. ⌜ ((line : ℕ) → outcomeOf line r ≡ finishedRead line tabs above numbers (tokensOf (drop at (now (text .entry))))) ⌝ }
+fn finished(
+    text: &[u8],
+    at: usize,
+    tabs: usize,
+    above: usize,
+    numbers: Operator,
+    mode: Mode,
+) -> OperatorLine
+    ensures { λ r. ⌜ ((line : ℕ) → outcomeOf line r ≡ finishedRead mode line tabs above numbers (tokensOf (drop at (now (text .entry))))) ⌝ }
 {
-    let f = feedback_at(text, at);
+    let f = feedback_at(text, at, mode);
     match f {
         Feedback::Refused(n) => {
             return OperatorLine::Refused(n);
@@ -232,8 +248,8 @@ fn finished(text: &[u8], at: usize, tabs: usize, above: usize, numbers: Operator
 
 // The operator of a line. So many operators stand above it in its instrument, and the last of them is indented by
 // `before`; where none stands above, `before` says nothing.
-pub fn operator(text: &[u8], before: usize, above: usize) -> OperatorLine
-    ensures { λ r. ⌜ ((line : ℕ) → outcomeOf line r ≡ operatorRead line (indentAbove above before) above (now (text .entry))) ⌝ }
+pub fn operator(text: &[u8], before: usize, above: usize, mode: Mode) -> OperatorLine
+    ensures { λ r. ⌜ ((line : ℕ) → outcomeOf line r ≡ operatorRead mode line (indentAbove above before) above (now (text .entry))) ⌝ }
 {
     let tabs = indent(text);
     let refusal = indent_refusal(tabs, before, above);
@@ -247,13 +263,13 @@ pub fn operator(text: &[u8], before: usize, above: usize) -> OperatorLine
     if count > 7 {
         return OperatorLine::Refused(17);
     }
-    let read = six_numbers(text);
+    let read = six_numbers(text, mode);
     match read {
         Six::Refused(n) => {
             return OperatorLine::Refused(n);
         }
         Six::Are(numbers, at) => {
-            return finished(text, at, tabs, above, numbers);
+            return finished(text, at, tabs, above, numbers, mode);
         }
     }
 }

@@ -10,7 +10,7 @@ use lib.Ieee.{Float, round, add, sub, mul, div, lt, ofBits, ofInt}
 use Rattle.text.specs.Quoted.{bytes}
 use Rattle.lines.specs.Lines.{linesOf}
 use Rattle.instrument.specs.Lines.{Line, releaseOf}
-use Rattle.sheet.specs.Refusals.{Outcome, going, refused, _>>=_, _>>_, refuse_on_unless_, refuse_on_without_}
+use Rattle.sheet.specs.Refusals.{Outcome, going, refused, _>>=_, _>>_, refuse_on_unless_, refuse_on_if_, refuse_on_without_}
 use Rattle.environment.specs.Environment.{atTheStart}
 use Rattle.blocks.specs.declared.block.Block.{Block}
 use Rattle.operators.specs.OperatorLines.{operatorLines, operatorsRead}
@@ -22,6 +22,8 @@ use Rattle.layout.specs.Regions.{region}
 use Rattle.bank.specs.Bank.{linesAt, linesFrom}
 use Rattle.layout.specs.Layout.{notesFrom}
 use Rattle.layout.proofs.Regions.{region-wide}
+use Rattle.strict.specs.declared.mode.Mode.{Mode}
+use Rattle.strict.specs.declared.mode.Mode.the-variants.{Plain}
 use Rattle.parser.specs.declared.sofar.Sofar.{Sofar}
 use Rattle.meaning.specs.Sheets.{Read, plain, nothingRead, linesRead}
 use Rattle.parser.specs.Columns.{sizeColumn, releaseColumn, placeColumn, tablesIn, partsFrom, readIn, Fits, Tabled, Blocked, Kept, nothingSofar}
@@ -36,8 +38,8 @@ use Rattle.tables.proofs.Entries.{same-given}
 abbrev pub written : List ℕ
 written = bytes "1 1 0 0 1 0"
 
-plain-read : operatorsRead none 1 0 (operatorLines (linesOf written)) ≡ going plain
-unfolding operatorsRead operatorLines linesOf bytes _>>=_ _>>_ refuse_on_unless_ round add sub mul div lt ofBits ofInt
+plain-read : operatorsRead Plain none 1 0 (operatorLines (linesOf written)) ≡ going plain
+unfolding operatorsRead operatorLines linesOf bytes _>>=_ _>>_ refuse_on_unless_ refuse_on_if_ round add sub mul div lt ofBits ofInt
 plain-read = refl
 
 plain-whole : map clipped plain ≡ plain
@@ -59,7 +61,7 @@ module _ (b : Block) (fs : List Float) (ss : List ℕ) (e : blockOutcome 1 b fs 
   plain-lines = same-given _ _ (sym (block-going 1 b fs ss plain-accepted) ∙ e)
 
 module _ (zs : List ℕ) (xs : List Float) (ss zs′ : List ℕ) (xs′ : List Float) (ss′ : List ℕ) (rs rs′ : List Float) (b : Block)
-    (lz : length zs ≡ 32) (lx : length xs′ ≡ 6176) (ls : length ss′ ≡ 2272) (lr : length rs ≡ 32) (q : Blocked written 0 0 b xs ss xs′ ss′) where
+    (lz : length zs ≡ 32) (lx : length xs′ ≡ 6176) (ls : length ss′ ≡ 2272) (lr : length rs ≡ 32) (q : Blocked Plain written 0 0 b xs ss xs′ ss′) where
   abbrev fs : List Float
   fs = region 192 0 xs′
 
@@ -98,7 +100,7 @@ module _ (zs : List ℕ) (xs : List Float) (ss zs′ : List ℕ) (xs′ : List F
 
 -- in the columns
 pub default-columns : (b : Block) (xs : List Float) (ss : List ℕ) (xs′ : List Float) (ss′ : List ℕ) → length xs ≡ 6176 → length ss ≡ 2272 → length xs′ ≡ 6176 → length ss′ ≡ 2272
-    → Kept written 0 0 b xs ss xs′ ss′
+    → Kept Plain written 0 0 b xs ss xs′ ss′
     → (linesFrom (sizeColumn ss′) xs′ ss′ 0 1 ≡ plain ∷ []) × (take 1 (releaseColumn xs′) ≡ releaseOf plain ∷ [])
 default-columns b xs ss xs′ ss′ lx lss kx ks q =
     default-kept (sizeColumn ss) xs ss (sizeColumn ss′) xs′ ss′ (releaseColumn xs) (releaseColumn xs′) b
@@ -153,13 +155,13 @@ module _ (s : List ℕ) (fs : List Float) (is ls : List ℕ) where
     begun-read r e = ap (λ (x : Sofar). readIn s (placeColumn ls) x fs is ls (tablesIn bs xs ss)) e ∙ nothing-read
 
     -- the walk begins
-    pub walking-begun : (rate : ℕ) (r : Sofar) → r ≡ nothingSofar → length fs ≡ 98304 → length is ≡ 32768 → length ls ≡ 288
+    pub walking-begun : (mode : Mode) (rate : ℕ) (r : Sofar) → r ≡ nothingSofar → length fs ≡ 98304 → length is ≡ 32768 → length ls ≡ 288
         → length bs ≡ 128 → length xs ≡ 6176 → length ss ≡ 2272 → take 1 (releaseColumn xs) ≡ releaseOf plain ∷ []
-        → Walking rate s (linesRead rate 0 1 (linesOf s) nothingRead) (placeColumn ls) r fs is ls (tablesIn bs xs ss)
+        → Walking mode rate s (linesRead mode rate 0 1 (linesOf s) nothingRead) (placeColumn ls) r fs is ls (tablesIn bs xs ss)
     unfolding nothingSofar
-    walking-begun rate r e lf li ll lb lx lss t =
-        subst (λ (x : Read). Walking rate s (linesRead rate 0 1 (linesOf s) x) (placeColumn ls) r fs is ls (tablesIn bs xs ss)) (begun-read r e)
-        (walking-start rate s (placeColumn ls) r fs is ls (tablesIn bs xs ss)
+    walking-begun mode rate r e lf li ll lb lx lss t =
+        subst (λ (x : Read). Walking mode rate s (linesRead mode rate 0 1 (linesOf s) x) (placeColumn ls) r fs is ls (tablesIn bs xs ss)) (begun-read r e)
+        (walking-start mode rate s (placeColumn ls) r fs is ls (tablesIn bs xs ss)
         (ap (λ (x : Sofar). x .refusal) e)
         (ap (λ (x : Sofar). x .at) e)
         (ap (λ (x : Sofar). x .line) e)

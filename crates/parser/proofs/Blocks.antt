@@ -16,15 +16,16 @@ use Rattle.blocks.specs.Blocks.{blockRead, blockOutcome}
 use Rattle.commands.specs.Commands.{linesHeld}
 use Rattle.layout.specs.Regions.{region}
 use Rattle.layout.proofs.Regions.{lent, back, lent-region, region-wide, back-here, back-beside}
+use Rattle.strict.specs.declared.mode.Mode.{Mode}
 use Rattle.parser.specs.Columns.{Blocked, Aside, Kept}
 use Rattle.parser.proofs.Pieces.{region-before, region-set, after-lent}
 
 -- where the columns have room, the lines are all that counts
-room-read : (line : ℕ) (below : List ℕ) (m n : ℕ) → m ≡ 192 → n ≡ 64 → blockRead line below m n ≡ operatorsRead none line 0 (operatorLines (linesOf below))
+room-read : (mode : Mode) (line : ℕ) (below : List ℕ) (m n : ℕ) → m ≡ 192 → n ≡ 64 → blockRead mode line below m n ≡ operatorsRead mode none line 0 (operatorLines (linesOf below))
 unfolding blockRead
-room-read line below m n e f = rw (le-leb 192 m (omega (arith, e)), le-leb 64 n (omega (arith, f)), blockRead)
+room-read mode line below m n e f = rw (le-leb 192 m (omega (arith, e)), le-leb 64 n (omega (arith, f)), blockRead)
 
-module _ (s : List ℕ) (at i : ℕ) (b : Block) (fs : List Float) (ss : List ℕ) (ys : List Float) (zs : List ℕ) (h : i < 32) (lf : length fs ≡ 6176) (ls : length ss ≡ 2272) (ky : length ys ≡ length (lent 192 i fs)) (kz : length zs ≡ length (lent 64 i ss)) where
+module _ (mode : Mode) (s : List ℕ) (at i : ℕ) (b : Block) (fs : List Float) (ss : List ℕ) (ys : List Float) (zs : List ℕ) (h : i < 32) (lf : length fs ≡ 6176) (ls : length ss ≡ 2272) (ky : length ys ≡ length (lent 192 i fs)) (kz : length zs ≡ length (lent 64 i ss)) where
   wide : length (lent 192 i fs) ≡ 192
   wide = ap length (lent-region 192 i fs) ∙ region-wide 192 i fs (omega (arith, h, lf))
 
@@ -37,16 +38,16 @@ module _ (s : List ℕ) (at i : ℕ) (b : Block) (fs : List Float) (ss : List �
   lz : length zs ≡ 64
   lz = kz ∙ high
 
-  pub blocked : ((line : ℕ) → blockOutcome line b ys zs ≡ blockRead line (drop at s) (length (lent 192 i fs)) (length (lent 64 i ss)))
+  pub blocked : ((line : ℕ) → blockOutcome line b ys zs ≡ blockRead mode line (drop at s) (length (lent 192 i fs)) (length (lent 64 i ss)))
       → (b .refusal ≡ 0 → linesOf (drop (b .next) s) ≡ drop (b .count) (linesOf (drop at s)))
       → at ≤ b .next → (at ≤ length s → b .next ≤ length s) → b .count ≤ 32
-      → Blocked s at i b fs ss (back 192 i fs ys) (back 64 i ss zs)
+      → Blocked mode s at i b fs ss (back 192 i fs ys) (back 64 i ss zs)
   blocked read lines onward inside few =
       record {
         read = λ line.
             ap₂ (λ (x : List Float) (y : List ℕ). blockOutcome line b x y) (back-here 192 i fs ys (omega (arith, h, lf)) ly) (back-here 64 i ss zs (omega (arith, h, ls)) lz)
             ∙ read line
-            ∙ room-read line (drop at s) (length (lent 192 i fs)) (length (lent 64 i ss)) wide high;
+            ∙ room-read mode line (drop at s) (length (lent 192 i fs)) (length (lent 64 i ss)) wide high;
         lines = lines;
         few = few;
         onward = onward;
@@ -67,8 +68,8 @@ module _ (s : List ℕ) (at i : ℕ) (b : Block) (fs : List Float) (ss : List �
 
 -- ---- the instrument that they are kept as
 
-module _ (s : List ℕ) (at i : ℕ) (b : Block) (fs : List Float) (ss : List ℕ) (fs′ : List Float) (ss′ : List ℕ) (q : Blocked s at i b fs ss fs′ ss′) (c : Aside ss ss′ fs fs′) where
-  pub kept-refused : (b .refusal ≡ 0 → ⊥) → Kept s at i b fs ss fs′ ss′
+module _ (mode : Mode) (s : List ℕ) (at i : ℕ) (b : Block) (fs : List Float) (ss : List ℕ) (fs′ : List Float) (ss′ : List ℕ) (q : Blocked mode s at i b fs ss fs′ ss′) (c : Aside ss ss′ fs fs′) where
+  pub kept-refused : (b .refusal ≡ 0 → ⊥) → Kept mode s at i b fs ss fs′ ss′
   kept-refused n = record { block = q; macros = c .0; names = c .1 .0; sizes = λ z. absurd (n z); releases = λ z. absurd (n z) }
 
   module _ (h : i < 32) (x : Float) (e : x ≡ releaseOf (linesHeld (b .count) (region 192 i fs′) (region 64 i ss′))) where
@@ -84,7 +85,7 @@ module _ (s : List ℕ) (at i : ℕ) (b : Block) (fs : List Float) (ss : List �
     shape-same : (j : ℕ) → j < 32 → region 64 j ts ≡ region 64 j ss′
     shape-same j l = region-before 64 j ss′ (2240 + i) (b .count) (omega (arith, l))
 
-    pub kept-stored : Kept s at i b fs ss gs ts
+    pub kept-stored : Kept mode s at i b fs ss gs ts
     kept-stored =
         record {
           block = record {

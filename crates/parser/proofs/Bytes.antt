@@ -12,6 +12,7 @@ use lib.Seq.{drop-cons}
 use borrow.Author.Tests.{ltb-true, ltb-false, lt-ltb, le-ltb, lt-leb, le-leb}
 use Rattle.lines.specs.Lines.{linesOf}
 use Rattle.sheet.specs.Refusals.{refused, _>>=_, _>>_, refuse_on_unless_}
+use Rattle.strict.specs.declared.mode.Mode.{Mode}
 use Rattle.meaning.specs.Layout.{laidOut, readingOf}
 use Rattle.meaning.specs.Sheets.{nothingRead, linesRead, ended, allBelow128, sheetRead}
 
@@ -46,15 +47,15 @@ module _ (s : List ℕ) (i most : ℕ) where
 
 -- ---- what comes before the lines
 
-module _ (rate : ℕ) (s : List ℕ) where
-  pub source-long : 32768 < length s → laidOut (refused 1 0) ≡ readingOf rate s
+module _ (mode : Mode) (rate : ℕ) (s : List ℕ) where
+  pub source-long : 32768 < length s → laidOut (refused 1 0) ≡ readingOf mode rate s
   unfolding readingOf sheetRead _>>_ refuse_on_unless_
   source-long h = rw (lt-leb (length s) 32768 h)
 
-  pub source-high : length s ≤ 32768 → allBelow128 s ≡ false → laidOut (refused 2 0) ≡ readingOf rate s
+  pub source-high : length s ≤ 32768 → allBelow128 s ≡ false → laidOut (refused 2 0) ≡ readingOf mode rate s
   unfolding readingOf sheetRead _>>_ refuse_on_unless_
   source-high h e = rw (le-leb (length s) 32768 h, e)
 
-  pub source-read : length s ≤ 32768 → allBelow128 s ≡ true → laidOut (linesRead rate 0 1 (linesOf s) nothingRead >>= (λ x. ended rate x)) ≡ readingOf rate s
+  pub source-read : length s ≤ 32768 → allBelow128 s ≡ true → laidOut (linesRead mode rate 0 1 (linesOf s) nothingRead >>= (λ x. ended rate x)) ≡ readingOf mode rate s
   unfolding readingOf sheetRead _>>_ refuse_on_unless_
   source-read h e = rw (le-leb (length s) 32768 h, e)

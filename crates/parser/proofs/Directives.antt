@@ -15,6 +15,7 @@ use Rattle.directive.specs.declared.directive.Directive.{Directive}
 use Rattle.directive.specs.Directives.{directiveOf, directiveOutcome, applied, appliedTo}
 use Rattle.directive.proofs.Parts.{applied-length, applied-at}
 use Rattle.tables.specs.Tables.{numberOf}
+use Rattle.strict.specs.declared.mode.Mode.{Mode}
 use Rattle.parser.specs.declared.sofar.Sofar.{Sofar}
 use Rattle.meaning.specs.Parts.{NamedPart, everyPart}
 use Rattle.meaning.specs.Sheets.{Read, readOf, directiveRead}
@@ -42,22 +43,22 @@ module _ (s places : List ℕ) (r : Sofar) (fs : List Float) (is ls : List ℕ) 
       (sym (h k (omega arith)))
       (parts-changed n (k + 1) (λ j l. h j (omega (arith, l))))
 
-module _ (s places : List ℕ) (r : Sofar) (fs : List Float) (is ls : List ℕ) (t : Tables) (end next : ℕ) (b : Begins s r end next) (d : Directive) (n : ℕ) where
-  module _ (said : (line : ℕ) → directiveOutcome line d ≡ directiveOf line (between s (r .at) end)) (number : (line : ℕ) → n ≡ numberOf (directiveOutcome line d)) where
+module _ (mode : Mode) (s places : List ℕ) (r : Sofar) (fs : List Float) (is ls : List ℕ) (t : Tables) (end next : ℕ) (b : Begins s r end next) (d : Directive) (n : ℕ) where
+  module _ (said : (line : ℕ) → directiveOutcome line d ≡ directiveOf mode line (between s (r .at) end)) (number : (line : ℕ) → n ≡ numberOf (directiveOutcome line d)) where
     abbrev before : Read
     before = readIn s places r fs is ls t
 
     abbrev text : List ℕ
     text = lineOf (drop (r .at) s)
 
-    says : directiveOf (r .line) text ≡ directiveOutcome (r .line) d
-    says = ap (directiveOf (r .line)) (sym (lined s r end next b .line)) ∙ sym (said (r .line))
+    says : directiveOf mode (r .line) text ≡ directiveOutcome (r .line) d
+    says = ap (directiveOf mode (r .line)) (sym (lined s r end next b .line)) ∙ sym (said (r .line))
 
-    pub directive-refuses : (n ≡ 0 → ⊥) → Goes (directiveRead (r .line) text before) 1 s places r (refusedAt r n (r .line)) fs is ls t
+    pub directive-refuses : (n ≡ 0 → ⊥) → Goes (directiveRead mode (r .line) text before) 1 s places r (refusedAt r n (r .line)) fs is ls t
     unfolding directiveRead
     directive-refuses z =
         goes-refused s places r fs is ls t _ 1 n (r .line) z
-        (then-refused n (r .line) (directiveOf (r .line) text) _ (says ∙ directive-refused d (r .line) n (number (r .line)) z))
+        (then-refused n (r .line) (directiveOf mode (r .line) text) _ (says ∙ directive-refused d (r .line) n (number (r .line)) z))
 
     module _ (z : n ≡ 0) where
       abbrev es : List Environment
@@ -70,9 +71,9 @@ module _ (s places : List ℕ) (r : Sofar) (fs : List Float) (is ls : List ℕ) 
       each w j h = applied-at d (r .parts) (r .envs) j atTheStart h (omega (arith, h, w .few, w .envs-length))
 
       numbered : Numbered (directiveOutcome (r .line) d)
-      numbered = subst Numbered says (directive-numbered (r .line) text)
+      numbered = subst Numbered says (directive-numbered mode (r .line) text)
 
-      pub directive-goes : Fits places r fs is ls → Tabled r t → Goes (directiveRead (r .line) text before) 1 s places r after fs is ls t
+      pub directive-goes : Fits places r fs is ls → Tabled r t → Goes (directiveRead mode (r .line) text before) 1 s places r after fs is ls t
       unfolding directiveRead readIn
       directive-goes w g =
           goes-on s places r fs is ls t after end next _ b (b .goes) refl refl
@@ -93,7 +94,7 @@ module _ (s places : List ℕ) (r : Sofar) (fs : List Float) (is ls : List ℕ) 
             loops-length = w .loops-length;
           })
           (tabled-as _ _ _ refl refl g)
-          (then-going (applied d) (directiveOf (r .line) text) _ (says ∙ directive-going d (r .line) n (number (r .line)) z numbered)
+          (then-going (applied d) (directiveOf mode (r .line) text) _ (says ∙ directive-going d (r .line) n (number (r .line)) z numbered)
           ∙ ap
           (λ (ps : List NamedPart). going (readOf (applied d (r .start)) ps (before .macros) (before .names) (before .instruments) (before .steps)))
           (parts-changed s places r fs is ls (applied d) (applied d (r .start)) es (r .line + 1) next (r .parts) 0 (λ j h. each w j (omega (arith, h)))))

@@ -28,6 +28,7 @@ use Rattle.lines.specs.Names.{namesIn}
 use Rattle.tables.specs.Tables.{headerOf, headerLine, numberOf, headersAfter}
 use Rattle.tables.proofs.NamesGrown.{names-grown}
 use Rattle.tables.proofs.Taken.{names-many}
+use Rattle.strict.specs.declared.mode.Mode.{Mode}
 use Rattle.parser.specs.declared.sofar.Sofar.{Sofar}
 use Rattle.meaning.specs.Sheets.{Read, readOf, headerRead}
 use Rattle.parser.specs.Columns.{Tables, tablesOf, macroColumn, nameColumn, sizeColumn, releaseColumn, tablesIn, readIn, Fits, Tabled, Begins, Goes, Blocked, Kept, refusedAt, passedTo}
@@ -124,7 +125,7 @@ module _ (s : List ℕ) (r : Sofar) (ns : List ℕ) (end next n : ℕ) (b : Begi
         holds-of _ name (subst (Holds (λ (y : List ℕ). (y ≡ name) × (length names + 1 < instrumentsMost))) header-accepted (few-names (r .line) name names)) .1 in
         omega (arith, k, h)
 
-module _ (s places : List ℕ) (r : Sofar) (fs : List Float) (is ls ms bs ns zs : List ℕ) (xs : List Float) (ss : List ℕ) (rs : List Float) (end next n : ℕ) (b : Begins s r end next) (w : Fits places r fs is ls) (g : Tabled r (tablesOf ms bs ns zs xs ss rs)) where
+module _ (mode : Mode) (s places : List ℕ) (r : Sofar) (fs : List Float) (is ls ms bs ns zs : List ℕ) (xs : List Float) (ss : List ℕ) (rs : List Float) (end next n : ℕ) (b : Begins s r end next) (w : Fits places r fs is ls) (g : Tabled r (tablesOf ms bs ns zs xs ss rs)) where
   abbrev line : ℕ
   line = r .line
 
@@ -147,7 +148,7 @@ module _ (s places : List ℕ) (r : Sofar) (fs : List Float) (is ls ms bs ns zs 
   says = header-says s r ns end next n b (g .instruments-few) (g .names-length)
 
   pub header-refuses : (u : Tables) → n ≡ numberOf outcome → (n ≡ 0 → ⊥)
-      → Goes (headerRead line text below before) (1 + length (operatorLines below)) s places r (refusedAt r n line) fs is ls u
+      → Goes (headerRead mode line text below before) (1 + length (operatorLines below)) s places r (refusedAt r n line) fs is ls u
   unfolding headerRead readIn
   header-refuses u e z =
       let e′ : n ≡ numberOf (headerOf line text known) = e ∙ ap numberOf says in
@@ -165,25 +166,25 @@ module _ (s places : List ℕ) (r : Sofar) (fs : List Float) (is ls ms bs ns zs 
     abbrev i : ℕ
     i = r .instruments + 1
 
-    module _ (k : Block) (xs′ : List Float) (ss′ : List ℕ) (q : Blocked s next i k xs ss xs′ ss′) where
+    module _ (k : Block) (xs′ : List Float) (ss′ : List ℕ) (q : Blocked mode s next i k xs ss xs′ ss′) where
       abbrev own : List Line
       own = linesIn (k .count) (region 192 i xs′) (region 64 i ss′)
 
       pub block-refuses : (u : Tables) → (k .refusal ≡ 0 → ⊥)
-          → Goes (headerRead line text below before) (1 + length (operatorLines below)) s places r (refusedAt r (k .refusal) (line + 1 + k .count)) fs is ls u
+          → Goes (headerRead mode line text below before) (1 + length (operatorLines below)) s places r (refusedAt r (k .refusal) (line + 1 + k .count)) fs is ls u
       unfolding headerRead readIn
       block-refuses u y =
           goes-refused s places r fs is ls u _ _ (k .refusal) (line + 1 + k .count) y
           (then-going text (headerOf line text known) _ accepted
-          ∙ then-refused (k .refusal) (line + 1 + k .count) (operatorsRead none (line + 1) 0 (operatorLines below)) _
+          ∙ then-refused (k .refusal) (line + 1 + k .count) (operatorsRead mode none (line + 1) 0 (operatorLines below)) _
           (sym (q .read (line + 1)) ∙ block-refused (line + 1) k _ _ y))
 
       module _ (y : k .refusal ≡ 0) (lx : length xs′ ≡ length xs) (ly : length ss′ ≡ length ss) where
-        read : operatorsRead none (line + 1) 0 (operatorLines below) ≡ going own
+        read : operatorsRead mode none (line + 1) 0 (operatorLines below) ≡ going own
         read = sym (q .read (line + 1)) ∙ block-going (line + 1) k _ _ y
 
         of-lines : OfLines (operatorLines below) own
-        of-lines = holds-of (OfLines (operatorLines below)) own (subst (Holds (OfLines (operatorLines below))) read (all-of-lines none (line + 1) 0 (operatorLines below)))
+        of-lines = holds-of (OfLines (operatorLines below)) own (subst (Holds (OfLines (operatorLines below))) read (all-of-lines mode none (line + 1) 0 (operatorLines below)))
 
         many : k .count ≡ length (operatorLines below)
         many = sym (lines-length (k .count) (region 192 i xs′) (region 64 i ss′)) ∙ of-lines .many
@@ -257,14 +258,14 @@ module _ (s places : List ℕ) (r : Sofar) (fs : List Float) (is ls ms bs ns zs 
                 releases = released;
               }
 
-          read-now : headerRead line text below before ≡ going (readIn s places after fs is ls tables)
+          read-now : headerRead mode line text below before ≡ going (readIn s places after fs is ls tables)
           unfolding headerRead readIn
           read-now =
               then-going text (headerOf line text known) _ accepted
-              ∙ then-going own (operatorsRead none (line + 1) 0 (operatorLines below)) _ read
+              ∙ then-going own (operatorsRead mode none (line + 1) 0 (operatorLines below)) _ read
               ∙ ap₂ (λ (a : List (List ℕ)) (c : List (List Line)). going (readOf (r .start) (before .parts) (before .macros) a c (r .steps))) (sym named) (sym grown)
 
-          goes-with : Goes (headerRead line text below before) (1 + length (operatorLines below)) s places r after fs is ls tables
+          goes-with : Goes (headerRead mode line text below before) (1 + length (operatorLines below)) s places r after fs is ls tables
           goes-with =
               let l = lined s r end next b in
               record {
@@ -278,10 +279,10 @@ module _ (s places : List ℕ) (r : Sofar) (fs : List Float) (is ls ms bs ns zs 
               }
 
           pub header-goes : (us : List ℕ) → us ≡ zs′
-              → Goes (headerRead line text below before) (1 + length (operatorLines below)) s places r after fs is ls (tablesOf ms bs ns′ us xs′ ss′ rs′)
+              → Goes (headerRead mode line text below before) (1 + length (operatorLines below)) s places r after fs is ls (tablesOf ms bs ns′ us xs′ ss′ rs′)
           header-goes us e =
               subst
-              (λ (v : List ℕ). Goes (headerRead line text below before) (1 + length (operatorLines below)) s places r after fs is ls (tablesOf ms bs ns′ v xs′ ss′ rs′))
+              (λ (v : List ℕ). Goes (headerRead mode line text below before) (1 + length (operatorLines below)) s places r after fs is ls (tablesOf ms bs ns′ v xs′ ss′ rs′))
               (sym e)
               goes-with
 
@@ -298,31 +299,31 @@ module _ (ss : List ℕ) (ls : length ss ≡ 2272) where
   pub names-back : (ys : List ℕ) → length ys ≡ length (lent 64 34 ss) → length (back 64 34 ss ys) ≡ length ss
   names-back ys h = back-length 64 34 ss ys room (h ∙ names-long)
 
-module _ (s places : List ℕ) (r : Sofar) (fs : List Float) (is ls bs : List ℕ) (xs : List Float) (ss : List ℕ) (end next n : ℕ) (b : Begins s r end next) (w : Fits places r fs is ls) (g : Tabled r (tablesIn bs xs ss)) (e : n ≡ numberOf (headerLine (r .line) s (r .at) end (r .instruments) (lent 64 34 ss))) where
+module _ (mode : Mode) (s places : List ℕ) (r : Sofar) (fs : List Float) (is ls bs : List ℕ) (xs : List Float) (ss : List ℕ) (end next n : ℕ) (b : Begins s r end next) (w : Fits places r fs is ls) (g : Tabled r (tablesIn bs xs ss)) (e : n ≡ numberOf (headerLine (r .line) s (r .at) end (r .instruments) (lent 64 34 ss))) where
   abbrev Came : Sofar → Tables → Type 0
   Came q u =
-      Goes (headerRead (r .line) (lineOf (drop (r .at) s)) (linesOf (drop next s)) (readIn s places r fs is ls (tablesIn bs xs ss))) (1 + length (operatorLines (linesOf (drop next s)))) s places r q fs is ls u
+      Goes (headerRead mode (r .line) (lineOf (drop (r .at) s)) (linesOf (drop next s)) (readIn s places r fs is ls (tablesIn bs xs ss))) (1 + length (operatorLines (linesOf (drop next s)))) s places r q fs is ls u
 
   told : n ≡ numberOf (headerLine (r .line) s (r .at) end (r .instruments) (nameColumn ss))
   unfolding region
   told = e
 
   pub column-refuses : (u : Tables) → (n ≡ 0 → ⊥) → Came (refusedAt r n (r .line)) u
-  column-refuses u z = header-refuses s places r fs is ls (macroColumn ss) bs (nameColumn ss) (sizeColumn ss) xs ss (releaseColumn xs) end next n b w g u told z
+  column-refuses u z = header-refuses mode s places r fs is ls (macroColumn ss) bs (nameColumn ss) (sizeColumn ss) xs ss (releaseColumn xs) end next n b w g u told z
 
   headers : (ys : List ℕ) → ys ≡ headersAfter (headerLine (r .line) s (r .at) end (r .instruments) (lent 64 34 ss)) s (r .at) end (r .instruments) (lent 64 34 ss)
       → ys ≡ headersAfter (headerLine (r .line) s (r .at) end (r .instruments) (nameColumn ss)) s (r .at) end (r .instruments) (nameColumn ss)
   unfolding region
   headers ys h = h
 
-  module _ (z : n ≡ 0) (ys : List ℕ) (long : length ys ≡ length (lent 64 34 ss)) (k : Block) (xs′ : List Float) (ss′ : List ℕ) (q : Kept s next (r .instruments + 1) k xs (back 64 34 ss ys) xs′ ss′) where
+  module _ (z : n ≡ 0) (ys : List ℕ) (long : length ys ≡ length (lent 64 34 ss)) (k : Block) (xs′ : List Float) (ss′ : List ℕ) (q : Kept mode s next (r .instruments + 1) k xs (back 64 34 ss ys) xs′ ss′) where
     wide : 64 * 34 + 64 ≤ length ss
     wide = room ss (g .shape-length)
 
     as-long : length ys ≡ 64
     as-long = long ∙ names-long ss (g .shape-length)
 
-    blocked : Blocked s next (r .instruments + 1) k xs ss xs′ ss′
+    blocked : Blocked mode s next (r .instruments + 1) k xs ss xs′ ss′
     blocked =
         let c = q .block in
         record {
@@ -336,7 +337,7 @@ module _ (s places : List ℕ) (r : Sofar) (fs : List Float) (is ls bs : List �
         }
 
     pub column-block-refuses : (u : Tables) → (k .refusal ≡ 0 → ⊥) → Came (refusedAt r (k .refusal) (r .line + 1 + k .count)) u
-    column-block-refuses u y = block-refuses s places r fs is ls (macroColumn ss) bs (nameColumn ss) (sizeColumn ss) xs ss (releaseColumn xs) end next n b w g told z k xs′ ss′ blocked u y
+    column-block-refuses u y = block-refuses mode s places r fs is ls (macroColumn ss) bs (nameColumn ss) (sizeColumn ss) xs ss (releaseColumn xs) end next n b w g told z k xs′ ss′ blocked u y
 
     pub column-goes : k .refusal ≡ 0 → length xs′ ≡ length xs → length ss′ ≡ length ss → ys ≡ headersAfter (headerLine (r .line) s (r .at) end (r .instruments) (lent 64 34 ss)) s (r .at) end (r .instruments) (lent 64 34 ss)
         → Came (passedTo r (r .macros) (r .instruments + 1) (r .line + 1 + k .count) (k .next)) (tablesIn bs xs′ ss′)
@@ -346,6 +347,6 @@ module _ (s places : List ℕ) (r : Sofar) (fs : List Float) (is ls bs : List �
         subst
         (λ (ms : List ℕ). Came (passedTo r (r .macros) (r .instruments + 1) (r .line + 1 + k .count) (k .next)) (tablesOf ms bs (nameColumn ss′) (sizeColumn ss′) xs′ ss′ (releaseColumn xs′)))
         macros
-        (header-goes s places r fs is ls (macroColumn ss) bs (nameColumn ss) (sizeColumn ss) xs ss (releaseColumn xs) end next n b w g told z k xs′ ss′ blocked y lx ly
+        (header-goes mode s places r fs is ls (macroColumn ss) bs (nameColumn ss) (sizeColumn ss) xs ss (releaseColumn xs) end next n b w g told z k xs′ ss′ blocked y lx ly
         (nameColumn ss′) (releaseColumn xs′) (ap length named ∙ long ∙ ap length (lent-region 64 34 ss)) (named ∙ headers ys en) (q .releases y)
         (sizeColumn ss′) (q .sizes y ∙ ap (λ (zs : List ℕ). set zs (r .instruments + 1) (k .count)) (after-lent 64 34 ss ys wide as-long 32 70 (omega arith))))

@@ -14,6 +14,7 @@ use Rattle.lines.specs.Tokens.{namedOf}
 use Rattle.lines.proofs.LinePlaces.{Lined}
 use Rattle.text.proofs.Rows.{row-none}
 use Rattle.operators.specs.OperatorLines.{operatorLines}
+use Rattle.strict.specs.declared.mode.Mode.{Mode}
 use Rattle.parser.specs.declared.sofar.Sofar.{Sofar}
 use Rattle.meaning.specs.Sheets.{Read, Kind, skipped, headerLine, directiveLine, macroLine, partLine, headerRead, directiveRead, macroRead, partRead, kindOf, takenBy, lineRead}
 use Rattle.parser.specs.Columns.{Tables, readIn, Fits, Tabled, Begins, Goes, passedTo}
@@ -115,7 +116,7 @@ module _ (l : List ℕ) where
 
 -- ---- what each does
 
-module _ (rate : ℕ) (s places : List ℕ) (r : Sofar) (fs : List Float) (is ls : List ℕ) (t : Tables) (next : ℕ) (places′ : List ℕ) (q : Sofar) (fs′ : List Float) (is′ ls′ : List ℕ) (t′ : Tables) where
+module _ (mode : Mode) (rate : ℕ) (s places : List ℕ) (r : Sofar) (fs : List Float) (is ls : List ℕ) (t : Tables) (next : ℕ) (places′ : List ℕ) (q : Sofar) (fs′ : List Float) (is′ ls′ : List ℕ) (t′ : Tables) where
   abbrev text : List ℕ
   text = lineOf (drop (r .at) s)
 
@@ -126,16 +127,16 @@ module _ (rate : ℕ) (s places : List ℕ) (r : Sofar) (fs : List Float) (is ls
   before = readIn s places r fs is ls t
 
   abbrev Stepped : Kind → Type 0
-  Stepped k = Goes (lineRead rate k (r .line) text below before) (1 + takenBy k below) s places′ r q fs′ is′ ls′ t′
+  Stepped k = Goes (lineRead mode rate k (r .line) text below before) (1 + takenBy k below) s places′ r q fs′ is′ ls′ t′
 
   by-kind : (k : Kind) → kindOf text ≡ k → Stepped k → Stepped (kindOf text)
   by-kind k e g = subst Stepped (sym e) g
 
-  pub header-stepped : kindOf text ≡ headerLine → Goes (headerRead (r .line) text below before) (1 + length (operatorLines below)) s places′ r q fs′ is′ ls′ t′ → Stepped (kindOf text)
+  pub header-stepped : kindOf text ≡ headerLine → Goes (headerRead mode (r .line) text below before) (1 + length (operatorLines below)) s places′ r q fs′ is′ ls′ t′ → Stepped (kindOf text)
   unfolding lineRead takenBy
   header-stepped e g = by-kind headerLine e g
 
-  pub directive-stepped : kindOf text ≡ directiveLine → Goes (directiveRead (r .line) text before) 1 s places′ r q fs′ is′ ls′ t′ → Stepped (kindOf text)
+  pub directive-stepped : kindOf text ≡ directiveLine → Goes (directiveRead mode (r .line) text before) 1 s places′ r q fs′ is′ ls′ t′ → Stepped (kindOf text)
   unfolding lineRead takenBy
   directive-stepped e g = by-kind directiveLine e g
 
@@ -148,15 +149,15 @@ module _ (rate : ℕ) (s places : List ℕ) (r : Sofar) (fs : List Float) (is ls
   part-stepped e g = by-kind partLine e g
 
 -- a line that is skipped
-module _ (rate : ℕ) (s places : List ℕ) (r : Sofar) (fs : List Float) (is ls : List ℕ) (t : Tables) (end next : ℕ) (b : Begins s r end next) (w : Fits places r fs is ls) (g : Tabled r t) where
+module _ (mode : Mode) (rate : ℕ) (s places : List ℕ) (r : Sofar) (fs : List Float) (is ls : List ℕ) (t : Tables) (end next : ℕ) (b : Begins s r end next) (w : Fits places r fs is ls) (g : Tabled r t) where
   abbrev after : Sofar
   after = passedTo r (r .macros) (r .instruments) (r .line + 1) next
 
-  pub skipped-steps : (q : Sofar) → q ≡ after → kindOf (lineOf (drop (r .at) s)) ≡ skipped → Stepped rate s places r fs is ls t next places q fs is ls t (kindOf (lineOf (drop (r .at) s)))
+  pub skipped-steps : (q : Sofar) → q ≡ after → kindOf (lineOf (drop (r .at) s)) ≡ skipped → Stepped mode rate s places r fs is ls t next places q fs is ls t (kindOf (lineOf (drop (r .at) s)))
   unfolding lineRead takenBy readIn
   skipped-steps q e k =
-      subst (λ (x : Sofar). Stepped rate s places r fs is ls t next places x fs is ls t (kindOf (lineOf (drop (r .at) s)))) (sym e)
-      (by-kind rate s places r fs is ls t next places after fs is ls t skipped k
+      subst (λ (x : Sofar). Stepped mode rate s places r fs is ls t next places x fs is ls t (kindOf (lineOf (drop (r .at) s)))) (sym e)
+      (by-kind mode rate s places r fs is ls t next places after fs is ls t skipped k
       (goes-on s places r fs is ls t after end next _ b (b .goes) refl refl
       (fits-passed _ _ _ _ _ _ _ _ _ w)
       (tabled-as _ _ _ refl refl g)

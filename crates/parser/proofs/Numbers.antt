@@ -10,7 +10,8 @@ use Rattle.text.specs.Quoted.{bytes}
 use Rattle.lines.specs.Tokens.{namedOf, firstToken}
 use Rattle.number.specs.Digits.{valueMost, intAt}
 use Rattle.sheet.specs.Refusals.{Outcome, going, refused, _>>=_, _>>_, refuse_on_unless_, refuse_on_without_}
-use Rattle.sheet.proofs.Outcomes.{Numbered, numbered-going, numbered-refused, numbered-unless, numbered-then}
+use Rattle.sheet.proofs.Outcomes.{Numbered, numbered-going, numbered-refused, numbered-unless, numbered-if, numbered-then}
+use Rattle.strict.specs.declared.mode.Mode.{Mode}
 use Rattle.environment.specs.declared.environment.Environment.{Environment}
 use Rattle.environment.specs.Bounds.{Bounds, tempos, denominators}
 use Rattle.environment.specs.Environment.{withTempo, withDenominator, withKey}
@@ -34,30 +35,30 @@ unfolding ranged
 ranged-numbered line b n =
     numbered-then _ _ (numbered-without 7 line n (omega arith)) (λ v. numbered-unless 8 line _ _ (omega arith) (numbered-going v))
 
-module _ (line : ℕ) (name text : List ℕ) where
+module _ (mode : Mode) (line : ℕ) (name text : List ℕ) where
   change-third : (t : Bool) → same name (bytes "#key") ≡ t → same name (bytes "#denom") ≡ false → same name (bytes "#tempo") ≡ false
-      → Numbered (changeOf line name text)
+      → Numbered (changeOf mode line name text)
   unfolding changeOf directives rowNamed bytes
   change-third true e f g =
-      rw (g, f, e, rowNamed) (numbered-then _ _ (numbered-without 9 line (keyFound (keyAt text 0)) (omega arith)) (λ k. numbered-going (withKey k)))
+      rw (g, f, e, rowNamed) (numbered-then _ _ (numbered-without 9 line (keyFound (keyAt text 0)) (omega arith)) (λ k. numbered-if _ _ _ _ (omega arith) (numbered-going (withKey k))))
   change-third false e f g = rw (g, f, e, rowNamed) (numbered-refused _ 6 line (omega arith))
 
-  change-second : (t : Bool) → same name (bytes "#denom") ≡ t → same name (bytes "#tempo") ≡ false → Numbered (changeOf line name text)
+  change-second : (t : Bool) → same name (bytes "#denom") ≡ t → same name (bytes "#tempo") ≡ false → Numbered (changeOf mode line name text)
   unfolding changeOf directives rowNamed bytes
   change-second true f g =
-      rw (g, f, rowNamed) (numbered-then _ _ (ranged-numbered line denominators (digitRun (intAt valueMost text 0))) (λ v. numbered-going (withDenominator v)))
+      rw (g, f, rowNamed) (numbered-then _ _ (ranged-numbered line denominators (digitRun (intAt valueMost text 0))) (λ v. numbered-if _ _ _ _ (omega arith) (numbered-going (withDenominator v))))
   change-second false f g = change-third (same name (bytes "#key")) refl f g
 
-  change-first : (t : Bool) → same name (bytes "#tempo") ≡ t → Numbered (changeOf line name text)
+  change-first : (t : Bool) → same name (bytes "#tempo") ≡ t → Numbered (changeOf mode line name text)
   unfolding changeOf directives rowNamed bytes
   change-first true g =
-      rw (g, rowNamed) (numbered-then _ _ (ranged-numbered line tempos (digitRun (intAt valueMost text 0))) (λ v. numbered-going (withTempo v)))
+      rw (g, rowNamed) (numbered-then _ _ (ranged-numbered line tempos (digitRun (intAt valueMost text 0))) (λ v. numbered-if _ _ _ _ (omega arith) (numbered-going (withTempo v))))
   change-first false g = change-second (same name (bytes "#denom")) refl g
 
-pub directive-numbered : (line : ℕ) (l : List ℕ) → Numbered (directiveOf line l)
+pub directive-numbered : (mode : Mode) (line : ℕ) (l : List ℕ) → Numbered (directiveOf mode line l)
 unfolding directiveOf
-directive-numbered line l =
-    numbered-then _ _ (numbered-without 7 line (namedOf l) (omega arith)) (λ n. change-first line (n .name) (firstToken (n .body)) (same (n .name) (bytes "#tempo")) refl)
+directive-numbered mode line l =
+    numbered-then _ _ (numbered-without 7 line (namedOf l) (omega arith)) (λ n. change-first mode line (n .name) (firstToken (n .body)) (same (n .name) (bytes "#tempo")) refl)
 
 -- what is changed where there is no refusal, and the refusal
 pub directive-going : (d : Directive) (line n : ℕ) → n ≡ numberOf (directiveOutcome line d) → n ≡ 0 → Numbered (directiveOutcome line d)

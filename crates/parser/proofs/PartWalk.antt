@@ -20,6 +20,7 @@ use Rattle.part.specs.declared.state.State.{State}
 use Rattle.part.specs.Body.{Book}
 use Rattle.part.specs.Columns.{bookIn}
 use Rattle.meaning.specs.Sheets.{partLine, kindOf, takenBy, lineRead}
+use Rattle.strict.specs.declared.mode.Mode.{Mode}
 use Rattle.parser.specs.declared.parts.Parted.{Parted}
 use Rattle.parser.specs.declared.sofar.Sofar.{Sofar}
 use Rattle.parser.specs.Columns.{Tables, macroColumn, nameColumn, releaseColumn, placeColumn, tablesIn, readIn, Fits, Tabled, Begins, Goes, refusedAt}
@@ -103,17 +104,18 @@ module _ (rate : ℕ) (s bs : List ℕ) (xs : List Float) (ss : List ℕ) (r : S
   abbrev book : Book
   book = bookIn rate s (take (2 * r .macros) (macroColumn ss)) (take (2 * r .macros) bs) (take (2 * r .instruments) (nameColumn ss)) (take (r .instruments + 1) (releaseColumn xs))
 
-  abbrev pub Walked : Sofar → List Float → List ℕ → List ℕ → Type 0
-  Walked q fs′ is′ ls′ =
-      Goes (lineRead rate (kindOf (lineOf (drop (r .at) s))) (r .line) (lineOf (drop (r .at) s)) (linesOf (drop next s)) (readIn s (placeColumn ls) r fs is ls tables)) (1 + takenBy (kindOf (lineOf (drop (r .at) s))) (linesOf (drop next s))) s (placeColumn ls′) r q fs′ is′ ls′ tables
+  -- in either mode, since nothing in a body is strict
+  abbrev pub Walked : Mode → Sofar → List Float → List ℕ → List ℕ → Type 0
+  Walked mode q fs′ is′ ls′ =
+      Goes (lineRead mode rate (kindOf (lineOf (drop (r .at) s))) (r .line) (lineOf (drop (r .at) s)) (linesOf (drop next s)) (readIn s (placeColumn ls) r fs is ls tables)) (1 + takenBy (kindOf (lineOf (drop (r .at) s))) (linesOf (drop next s))) s (placeColumn ls′) r q fs′ is′ ls′ tables
 
-  walked : (q : Sofar) (fs′ : List Float) (is′ ls′ : List ℕ) → Gone rate s bs xs ss r fs is ls end next b g t name refl (placeColumn ls′) q fs′ is′ ls′ → Walked q fs′ is′ ls′
-  walked q fs′ is′ ls′ =
-      part-stepped rate s (placeColumn ls) r fs is ls tables next (placeColumn ls′) q fs′ is′ ls′ tables (ap kindOf (sym (lined s r end next b .line)) ∙ o .kind own)
+  walked : (mode : Mode) (q : Sofar) (fs′ : List Float) (is′ ls′ : List ℕ) → Gone rate s bs xs ss r fs is ls end next b g t name refl (placeColumn ls′) q fs′ is′ ls′ → Walked mode q fs′ is′ ls′
+  walked mode q fs′ is′ ls′ =
+      part-stepped mode rate s (placeColumn ls) r fs is ls tables next (placeColumn ls′) q fs′ is′ ls′ tables (ap kindOf (sym (lined s r end next b .line)) ∙ o .kind own)
 
   -- there is no room for the part
-  pub full-walked : 16 ≤ k → (q : Sofar) → q ≡ refusedAt r 21 (r .line) → Walked q fs is ls
-  full-walked h q e = walked q fs is ls (way-full rate s bs xs ss r fs is ls end next b g t name refl (o .two own) k (o .place own) h q e)
+  pub full-walked : 16 ≤ k → (q : Sofar) → q ≡ refusedAt r 21 (r .line) → (mode : Mode) → Walked mode q fs is ls
+  full-walked h q e mode = walked mode q fs is ls (way-full rate s bs xs ss r fs is ls end next b g t name refl (o .two own) k (o .place own) h q e)
 
   module _ (room : k < 16) (ls′ : List ℕ) (w : NamedAt k (r .parts) (p .from) (p .end) ls ls′) (long : length ls′ ≡ length ls) where
     named-at : NamedAt k (r .parts) (r .at + name .from) (r .at + name .end) ls ls′
@@ -149,19 +151,19 @@ module _ (rate : ℕ) (s bs : List ℕ) (xs : List Float) (ss : List ℕ) (r : S
           ∙ sym (take-all (length l - name .end) (drop (name .end) l) (le-of-eq (length-drop (name .end) l)))
 
       module _ (q : State) (gs : List Float) (js ms : List ℕ) (c : BodyCame (bodyAt book (r .line) (between s (p .end) end) k st fs is ls′) k st q fs is ls′ gs js ms) (kept : placeColumn ms ≡ placeColumn ls′) where
-        behind : (u : Sofar) → Passed next (storedAs (withPart r k) k q) u → Walked u gs js ms
-        behind u h =
-            walked u gs js ms
+        behind : (u : Sofar) → Passed next (storedAs (withPart r k) k q) u → (mode : Mode) → Walked mode u gs js ms
+        behind u h mode =
+            walked mode u gs js ms
             (way-played rate s bs xs ss r fs is ls end next b g t name refl (o .two own) k (o .place own) room ls′ named-at long u gs js ms
             (line-passes r k book (take (length l - name .end) (drop (name .end) l)) next fs is ls′ gs js ms (asked .1 .1 .1 .0) (asked .1 .0) st its-state q
             (subst (λ (x : List ℕ). BodyCame (bodyAt book (r .line) x k st fs is ls′) k st q fs is ls′ gs js ms) body-is c) u h kept))
 
         -- its refusal
-        pub refused-walked : (q .refusal ≡ 0 → ⊥) → (u : Sofar) → u ≡ refusedAt r (q .refusal) (q .line) → Walked u gs js ms
+        pub refused-walked : (q .refusal ≡ 0 → ⊥) → (u : Sofar) → u ≡ refusedAt r (q .refusal) (q .line) → (mode : Mode) → Walked mode u gs js ms
         refused-walked n u f = behind u (subst (λ (x : Sofar). Passed next (storedAs (withPart r k) k q) x) (sym f) (stored-refuses next r k q n))
 
         -- the reading with what has come of it
-        pub stored-walked : (z : q .refusal ≡ 0) (n : ℕ) → n ≡ max (r .parts) (k + 1) → Walked (stored next r k q n) gs js ms
-        stored-walked z n f =
-            subst (λ (x : ℕ). Walked (stored next r k q x) gs js ms) (sym f)
-            (behind (stored next r k q (max (r .parts) (k + 1))) (stored-grown next r k q (asked .1 .0) z (asked .0)))
+        pub stored-walked : (z : q .refusal ≡ 0) (n : ℕ) → n ≡ max (r .parts) (k + 1) → (mode : Mode) → Walked mode (stored next r k q n) gs js ms
+        stored-walked z n f mode =
+            subst (λ (x : ℕ). Walked mode (stored next r k q x) gs js ms) (sym f)
+            (behind (stored next r k q (max (r .parts) (k + 1))) (stored-grown next r k q (asked .1 .0) z (asked .0)) mode)

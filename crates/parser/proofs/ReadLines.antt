@@ -11,7 +11,8 @@ use borrow.Author.Tests.{leb-true}
 use Rattle.lines.specs.Tokens.{tokensOf}
 use Rattle.instrument.specs.Lines.{Line}
 use Rattle.sheet.specs.Capacities.{feedbackMost}
-use Rattle.sheet.proofs.Holds.{Holds, holds-going, holds-unless, holds-then, holds-after}
+use Rattle.sheet.proofs.Holds.{Holds, holds-going, holds-unless, holds-if, holds-then, holds-after}
+use Rattle.strict.specs.declared.mode.Mode.{Mode}
 use Rattle.operators.specs.OperatorLines.{indentOf, feedbackRead, operatorOf, operatorRead, operatorsRead}
 use Rattle.blocks.specs.Blocks.{linesIn}
 use Rattle.operators.proofs.Indents.{holds-indented}
@@ -19,10 +20,10 @@ use Rattle.commands.specs.Commands.{clipped, linesHeld}
 
 -- ---- the feedback
 
-feedback-few : (line : ℕ) (ts : List (List ℕ)) → Holds (λ (f : ℕ). f ≤ feedbackMost) (feedbackRead line ts)
+feedback-few : (mode : Mode) (line : ℕ) (ts : List (List ℕ)) → Holds (λ (f : ℕ). f ≤ feedbackMost) (feedbackRead mode line ts)
 unfolding feedbackRead
-feedback-few line [] = holds-going (λ (f : ℕ). f ≤ feedbackMost) 0 (omega arith)
-feedback-few line (t ∷ ts) = holds-after _ _ _ (λ v. holds-unless _ _ _ _ _ (λ e. holds-going (λ (f : ℕ). f ≤ feedbackMost) v (leb-true _ _ e)))
+feedback-few mode line [] = holds-going (λ (f : ℕ). f ≤ feedbackMost) 0 (omega arith)
+feedback-few mode line (t ∷ ts) = holds-after _ _ _ (λ v. holds-unless _ _ _ _ _ (λ e. holds-if _ _ _ _ _ (holds-going (λ (f : ℕ). f ≤ feedbackMost) v (leb-true _ _ e))))
 
 -- an operator that is read is not clipped
 abbrev Whole : Line → Type 0
@@ -32,13 +33,13 @@ operator-whole : (l : List ℕ) (xs : List Float) (f : ℕ) → f ≤ feedbackMo
 unfolding clipped operatorOf
 operator-whole l xs f h = rw (let z : min f 255 ≡ f = omega (arith, h) in z)
 
-one-whole : (line : ℕ) (before : Option ℕ) (above : ℕ) (l : List ℕ) → Holds Whole (operatorRead line before above l)
+one-whole : (mode : Mode) (line : ℕ) (before : Option ℕ) (above : ℕ) (l : List ℕ) → Holds Whole (operatorRead mode line before above l)
 unfolding operatorRead
-one-whole line before above l =
+one-whole mode line before above l =
     holds-indented Whole line before (indentOf l) _
     (λ e. holds-unless _ _ _ _ _
     (λ t. holds-after _ _ _
-    (λ xs. holds-then (λ (f : ℕ). f ≤ feedbackMost) Whole (feedbackRead line (drop 6 (tokensOf l))) _ (feedback-few line (drop 6 (tokensOf l)))
+    (λ xs. holds-then (λ (f : ℕ). f ≤ feedbackMost) Whole (feedbackRead mode line (drop 6 (tokensOf l))) _ (feedback-few mode line (drop 6 (tokensOf l)))
     (λ f k. holds-unless _ _ _ _ _ (λ u. holds-going Whole _ (operator-whole l xs f k))))))
 
 -- ---- all lines
@@ -48,13 +49,13 @@ pub record OfLines (ls : List (List ℕ)) (os : List Line) : Type 0 where
   pub whole : map clipped os ≡ os
   pub many : length os ≡ length ls
 
-pub all-of-lines : (before : Option ℕ) (line above : ℕ) (ls : List (List ℕ)) → Holds (OfLines ls) (operatorsRead before line above ls)
+pub all-of-lines : (mode : Mode) (before : Option ℕ) (line above : ℕ) (ls : List (List ℕ)) → Holds (OfLines ls) (operatorsRead mode before line above ls)
 unfolding operatorsRead
-all-of-lines before line above [] = holds-going (OfLines []) [] (record { whole = refl; many = refl })
-all-of-lines before line above (l ∷ ls) =
-    holds-then Whole (OfLines (l ∷ ls)) (operatorRead line before above l) _ (one-whole line before above l)
-    (λ o w. holds-then (OfLines ls) (OfLines (l ∷ ls)) (operatorsRead (some (o .indent)) (line + 1) (above + 1) ls) _
-    (all-of-lines (some (o .indent)) (line + 1) (above + 1) ls)
+all-of-lines mode before line above [] = holds-going (OfLines []) [] (record { whole = refl; many = refl })
+all-of-lines mode before line above (l ∷ ls) =
+    holds-then Whole (OfLines (l ∷ ls)) (operatorRead mode line before above l) _ (one-whole mode line before above l)
+    (λ o w. holds-then (OfLines ls) (OfLines (l ∷ ls)) (operatorsRead mode (some (o .indent)) (line + 1) (above + 1) ls) _
+    (all-of-lines mode (some (o .indent)) (line + 1) (above + 1) ls)
     (λ os k. holds-going (OfLines (l ∷ ls)) (o ∷ os) (record { whole = ap₂ (λ (x : Line) (xs : List Line). x ∷ xs) w (k .whole); many = ap suc (k .many) })))
 
 -- ---- the columns

@@ -23,6 +23,7 @@ use Rattle.part.specs.Columns.{loopsIn}
 use Rattle.layout.specs.Regions.{region}
 use Rattle.bank.specs.Bank.{linesFrom}
 use Rattle.layout.specs.Layout.{notesAt, notesFrom}
+use Rattle.strict.specs.declared.mode.Mode.{Mode}
 use Rattle.parser.specs.declared.sofar.Sofar.{Sofar}
 use Rattle.meaning.specs.Parts.{NamedPart}
 use Rattle.meaning.specs.Sheets.{Read, readOf}
@@ -156,9 +157,9 @@ pub record Goes (o : Outcome Read) (n : ℕ) (s places : List ℕ) (r q : Sofar)
   pub onward : q .refusal ≡ 0 → (r .at < q .at) × (q .at ≤ length s)
 
 -- the operator lines below a header, from a place on, read into the regions of the instrument i: the other regions stay
-pub record Blocked (s : List ℕ) (at i : ℕ) (b : Block) (fs : List Float) (ss : List ℕ) (fs′ : List Float) (ss′ : List ℕ) : Type 0 where
+pub record Blocked (mode : Mode) (s : List ℕ) (at i : ℕ) (b : Block) (fs : List Float) (ss : List ℕ) (fs′ : List Float) (ss′ : List ℕ) : Type 0 where
   pub read : (line : ℕ)
-      → blockOutcome line b (region (6 * operatorsMost) i fs′) (region (2 * operatorsMost) i ss′) ≡ operatorsRead none line 0 (operatorLines (linesOf (drop at s)))
+      → blockOutcome line b (region (6 * operatorsMost) i fs′) (region (2 * operatorsMost) i ss′) ≡ operatorsRead mode none line 0 (operatorLines (linesOf (drop at s)))
   pub lines : b .refusal ≡ 0 → linesOf (drop (b .next) s) ≡ drop (b .count) (linesOf (drop at s))
   pub few : b .count ≤ operatorsMost
   pub onward : at ≤ b .next
@@ -172,8 +173,8 @@ Aside ss ss′ fs fs′ =
     (macroColumn ss′ ≡ macroColumn ss) × ((nameColumn ss′ ≡ nameColumn ss) × ((sizeColumn ss′ ≡ sizeColumn ss) × (releaseColumn fs′ ≡ releaseColumn fs)))
 
 -- the same kept as the instrument i: with their number among the sizes and their release among the releases, and the names as before
-pub record Kept (s : List ℕ) (at i : ℕ) (b : Block) (fs : List Float) (ss : List ℕ) (fs′ : List Float) (ss′ : List ℕ) : Type 0 where
-  pub block : Blocked s at i b fs ss fs′ ss′
+pub record Kept (mode : Mode) (s : List ℕ) (at i : ℕ) (b : Block) (fs : List Float) (ss : List ℕ) (fs′ : List Float) (ss′ : List ℕ) : Type 0 where
+  pub block : Blocked mode s at i b fs ss fs′ ss′
   pub macros : macroColumn ss′ ≡ macroColumn ss
   pub names : nameColumn ss′ ≡ nameColumn ss
   pub sizes : b .refusal ≡ 0 → sizeColumn ss′ ≡ set (sizeColumn ss) i (b .count)

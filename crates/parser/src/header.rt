@@ -18,12 +18,20 @@ use crate::steps::refused;
 use blocks::block::Block;
 use blocks::block::read_block;
 use commands::layout::release_held;
+use strict::mode::Mode;
 use tables::table::header_line;
 
 // The operator lines from place `at` on, in the regions of the instrument i.
-fn block_at(source: &[u8], at: usize, numbers: &mut [f32], shape: &mut [usize], i: usize) -> Block
+fn block_at(
+    source: &[u8],
+    at: usize,
+    numbers: &mut [f32],
+    shape: &mut [usize],
+    i: usize,
+    mode: Mode,
+) -> Block
     requires { ⌜ (i < 32) × ((length (now numbers) ≡ 6176) × (length (now shape) ≡ 2272)) ⌝ }
-    ensures block { λ b. ⌜ Blocked (now (source .entry)) at i b (now (numbers .entry)) (now (shape .entry)) (now (numbers .exit)) (now (shape .exit)) ⌝ }
+    ensures block { λ b. ⌜ Blocked mode (now (source .entry)) at i b (now (numbers .entry)) (now (shape .entry)) (now (numbers .exit)) (now (shape .exit)) ⌝ }
     ensures aside { λ _. ⌜ Aside (now (shape .entry)) (now (shape .exit)) (now (numbers .entry)) (now (numbers .exit)) ⌝ }
 {
     read_block(
@@ -31,6 +39,7 @@ fn block_at(source: &[u8], at: usize, numbers: &mut [f32], shape: &mut [usize], 
         at,
         &mut numbers[192 * i..192 * i + 192],
         &mut shape[64 * i..64 * i + 64],
+        mode,
     )
 }
 
@@ -47,11 +56,18 @@ fn release_at(numbers: &[f32], shape: &[usize], i: usize, size: usize) -> f32
 }
 
 // The operator lines from place `at` on, kept as the instrument i with their number and its release.
-fn kept(source: &[u8], at: usize, numbers: &mut [f32], shape: &mut [usize], i: usize) -> Block
+fn kept(
+    source: &[u8],
+    at: usize,
+    numbers: &mut [f32],
+    shape: &mut [usize],
+    i: usize,
+    mode: Mode,
+) -> Block
     requires { ⌜ (i < 32) × ((length (now numbers) ≡ 6176) × (length (now shape) ≡ 2272)) ⌝ }
-    ensures { λ b. ⌜ Kept (now (source .entry)) at i b (now (numbers .entry)) (now (shape .entry)) (now (numbers .exit)) (now (shape .exit)) ⌝ }
+    ensures { λ b. ⌜ Kept mode (now (source .entry)) at i b (now (numbers .entry)) (now (shape .entry)) (now (numbers .exit)) (now (shape .exit)) ⌝ }
 {
-    let b = block_at(source, at, numbers, shape, i);
+    let b = block_at(source, at, numbers, shape, i, mode);
     if b.refusal != 0 {
         return b;
     }
@@ -67,7 +83,7 @@ pub(crate) fn default_instrument(numbers: &mut [f32], shape: &mut [usize])
     ensures lines { λ _. ⌜ linesFrom (sizeColumn (now (shape .exit))) (now (numbers .exit)) (now (shape .exit)) 0 1 ≡ plain ∷ [] ⌝ }
     ensures releases { λ _. ⌜ take 1 (releaseColumn (now (numbers .exit))) ≡ releaseOf plain ∷ [] ⌝ }
 {
-    kept(b"1 1 0 0 1 0", 0, numbers, shape, 0);
+    kept(b"1 1 0 0 1 0", 0, numbers, shape, 0, Mode::Plain);
 }
 
 // A header's line, and the operator lines below it.
@@ -78,16 +94,17 @@ pub(crate) fn header_step(
     numbers: &mut [f32],
     shape: &mut [usize],
     r: Sofar,
+    mode: Mode,
 ) -> Sofar
     requires { ⌜ Begins (now source) r end next × ((r .instruments + 1 ≤ 32) × ((length (now numbers) ≡ 6176) × (length (now shape) ≡ 2272))) ⌝ }
-    ensures { λ q. ⌜ ((places : List ℕ) (fs : List Float) (is ls bs : List ℕ) → Fits places r fs is ls → Tabled r (tablesIn bs (now (numbers .entry)) (now (shape .entry))) → Goes (headerRead (r .line) (lineOf (drop (r .at) (now (source .entry)))) (linesOf (drop next (now (source .entry)))) (readIn (now (source .entry)) places r fs is ls (tablesIn bs (now (numbers .entry)) (now (shape .entry))))) (1 + length (operatorLines (linesOf (drop next (now (source .entry)))))) (now (source .entry)) places r q fs is ls (tablesIn bs (now (numbers .exit)) (now (shape .exit)))) ⌝ }
+    ensures { λ q. ⌜ ((places : List ℕ) (fs : List Float) (is ls bs : List ℕ) → Fits places r fs is ls → Tabled r (tablesIn bs (now (numbers .entry)) (now (shape .entry))) → Goes (headerRead mode (r .line) (lineOf (drop (r .at) (now (source .entry)))) (linesOf (drop next (now (source .entry)))) (readIn (now (source .entry)) places r fs is ls (tablesIn bs (now (numbers .entry)) (now (shape .entry))))) (1 + length (operatorLines (linesOf (drop next (now (source .entry)))))) (now (source .entry)) places r q fs is ls (tablesIn bs (now (numbers .exit)) (now (shape .exit)))) ⌝ }
 {
     let i = r.instruments + 1;
     let number = header_line(source, r.at, end, &mut shape[2176..2240], r.instruments);
     if number != 0 {
         return refused(r, number, r.line);
     }
-    let b = kept(source, next, numbers, shape, i);
+    let b = kept(source, next, numbers, shape, i, mode);
     let line = r.line + 1 + b.count;
     if b.refusal != 0 {
         return refused(r, b.refusal, line);

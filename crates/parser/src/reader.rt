@@ -11,11 +11,12 @@ use crate::ending::finished;
 use crate::ending::refused_reading;
 use crate::walk::walk;
 use meaning::reading::Reading;
+use strict::mode::Mode;
 
 // The lines of a source, read into tables and columns that have room for all that the capacities allow.
-fn read_lines(source: &[u8], rate: u32) -> Reading
+fn read_lines(source: &[u8], rate: u32, mode: Mode) -> Reading
     requires { ⌜ length (now source) ≤ 32768 ⌝ }
-    ensures { λ r. ⌜ r ≡ laidOut (linesRead rate 0 1 (linesOf (now (source .entry))) nothingRead then (λ x. ended rate x)) ⌝ }
+    ensures { λ r. ⌜ r ≡ laidOut (linesRead mode rate 0 1 (linesOf (now (source .entry))) nothingRead then (λ x. ended rate x)) ⌝ }
 {
     let mut bodies = [0usize; 128];
     let mut numbers = [0.0f32; 6176];
@@ -32,6 +33,7 @@ fn read_lines(source: &[u8], rate: u32) -> Reading
         &mut bytes,
         &mut loops,
         rate,
+        mode,
     );
     finished(&floats, &bytes, &numbers, &shape, q, rate)
 }
@@ -59,9 +61,9 @@ fn all_below_128(source: &[u8]) -> bool
     most < 128
 }
 
-// What a source is read as: a refusal with its line, or a sheet with the steps that were read.
-pub fn read(source: &[u8]) -> Reading
-    ensures { λ r. ⌜ r ≡ readingOf 44100 (now (source .entry)) ⌝ }
+// What a source is read as in a mode: a refusal with its line, or a sheet with the steps that were read.
+pub fn read(source: &[u8], mode: Mode) -> Reading
+    ensures { λ r. ⌜ r ≡ readingOf mode 44100 (now (source .entry)) ⌝ }
 {
     if source.len() > 32768 {
         return refused_reading(1, 0);
@@ -69,5 +71,5 @@ pub fn read(source: &[u8]) -> Reading
     if !all_below_128(source) {
         return refused_reading(2, 0);
     }
-    read_lines(source, 44100)
+    read_lines(source, 44100, mode)
 }

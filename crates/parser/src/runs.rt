@@ -3,6 +3,7 @@
 ghost use mathlib.Core.Path.{_≡_};
 ghost use Prim.Native.Nat.{_+_, _≤_, max};
 ghost use lib.ListN.{length};
+ghost use Rattle.strict.specs.declared.mode.Mode.{Mode};
 ghost use Rattle.parser.specs.Columns.{placeColumn, tablesIn};
 ghost use Rattle.parser.specs.Walks.{restRead, Walking, PartsRead};
 use crate::parts::named;
@@ -23,7 +24,7 @@ fn larger(a: usize, b: usize) -> usize
 }
 
 // All lines up to the next one that names no part, or to the first refusal. The reading is changed in its place: handed on by value for each line, it would be
-// copied for each.
+// copied for each. Nothing in a body is strict, so that the mode says nothing here.
 pub(crate) fn part_lines(
     source: &[u8],
     bodies: &[usize],
@@ -35,8 +36,8 @@ pub(crate) fn part_lines(
     mut r: Sofar,
     rate: u32,
 ) -> Sofar
-    requires { ⌜ (length (now source) ≤ 32768) × Walking rate (now source) (restRead rate (now source) (placeColumn (now loops)) r (now floats) (now bytes) (now loops) (tablesIn (now bodies) (now numbers) (now shape))) (placeColumn (now loops)) r (now floats) (now bytes) (now loops) (tablesIn (now bodies) (now numbers) (now shape)) ⌝ }
-    ensures { λ q. ⌜ PartsRead rate (now (source .entry)) (restRead rate (now (source .entry)) (placeColumn (now (loops .entry))) r (now (floats .entry)) (now (bytes .entry)) (now (loops .entry)) (tablesIn (now (bodies .entry)) (now (numbers .entry)) (now (shape .entry)))) r q (now (floats .exit)) (now (bytes .exit)) (now (loops .exit)) (tablesIn (now (bodies .entry)) (now (numbers .entry)) (now (shape .entry))) ⌝ }
+    requires { ⌜ (length (now source) ≤ 32768) × ((mode : Mode) → Walking mode rate (now source) (restRead mode rate (now source) (placeColumn (now loops)) r (now floats) (now bytes) (now loops) (tablesIn (now bodies) (now numbers) (now shape))) (placeColumn (now loops)) r (now floats) (now bytes) (now loops) (tablesIn (now bodies) (now numbers) (now shape))) ⌝ }
+    ensures { λ q. ⌜ ((mode : Mode) → PartsRead mode rate (now (source .entry)) (restRead mode rate (now (source .entry)) (placeColumn (now (loops .entry))) r (now (floats .entry)) (now (bytes .entry)) (now (loops .entry)) (tablesIn (now (bodies .entry)) (now (numbers .entry)) (now (shape .entry)))) r q (now (floats .exit)) (now (bytes .exit)) (now (loops .exit)) (tablesIn (now (bodies .entry)) (now (numbers .entry)) (now (shape .entry)))) ⌝ }
 {
     while r.at < source.len() {
         let at = r.at;

@@ -15,6 +15,7 @@ use directive::directive::Directive;
 use directive::directive::apply;
 use directive::directive::apply_to_parts;
 use directive::directive::read_directive;
+use strict::mode::Mode;
 use tables::table::macro_line;
 
 // A refusal with its line.
@@ -70,13 +71,13 @@ fn changed(d: Directive, r: Sofar) -> Sofar
 }
 
 // A directive's line.
-pub(crate) fn directive_step(source: &[u8], end: usize, next: usize, r: Sofar) -> Sofar
+pub(crate) fn directive_step(source: &[u8], end: usize, next: usize, r: Sofar, mode: Mode) -> Sofar
     requires { ⌜ Begins (now source) r end next ⌝ }
-    ensures { λ q. ⌜ ((places : List ℕ) (fs : List Float) (is ls : List ℕ) (t : Tables) → Fits places r fs is ls → Tabled r t → Goes (directiveRead (r .line) (lineOf (drop (r .at) (now (source .entry)))) (readIn (now (source .entry)) places r fs is ls t)) 1 (now (source .entry)) places r q fs is ls t) ⌝ }
+    ensures { λ q. ⌜ ((places : List ℕ) (fs : List Float) (is ls : List ℕ) (t : Tables) → Fits places r fs is ls → Tabled r t → Goes (directiveRead mode (r .line) (lineOf (drop (r .at) (now (source .entry)))) (readIn (now (source .entry)) places r fs is ls t)) 1 (now (source .entry)) places r q fs is ls t) ⌝ }
 {
     let at = r.at;
     let l = &source[at..end];
-    let d = read_directive(l);
+    let d = read_directive(l, mode);
     let number = refusal_of(d);
     if number != 0 {
         return refused(r, number, r.line);

@@ -18,6 +18,7 @@ use crate::steps::macro_step;
 use crate::steps::passed;
 use environment::environment::Environment;
 use lines::lines::line_at;
+use strict::mode::Mode;
 
 // A line that names no part, by the byte that it begins with.
 fn line_step(
@@ -28,10 +29,11 @@ fn line_step(
     numbers: &mut [f32],
     shape: &mut [usize],
     r: Sofar,
+    mode: Mode,
 ) -> Sofar
     requires line { ⌜ Begins (now source) r end next × Tabled r (tablesIn (now bodies) (now numbers) (now shape)) ⌝ }
     requires bare { ⌜ BareAt (now source) (r .at) end ⌝ }
-    ensures { λ q. ⌜ ((rate : ℕ) (fs : List Float) (is ls : List ℕ) → Fits (placeColumn ls) r fs is ls → Goes (lineRead rate (kindOf (lineOf (drop (r .at) (now (source .entry))))) (r .line) (lineOf (drop (r .at) (now (source .entry)))) (linesOf (drop next (now (source .entry)))) (readIn (now (source .entry)) (placeColumn ls) r fs is ls (tablesIn (now (bodies .entry)) (now (numbers .entry)) (now (shape .entry))))) (1 + takenBy (kindOf (lineOf (drop (r .at) (now (source .entry))))) (linesOf (drop next (now (source .entry))))) (now (source .entry)) (placeColumn ls) r q fs is ls (tablesIn (now (bodies .exit)) (now (numbers .exit)) (now (shape .exit)))) ⌝ }
+    ensures { λ q. ⌜ ((rate : ℕ) (fs : List Float) (is ls : List ℕ) → Fits (placeColumn ls) r fs is ls → Goes (lineRead mode rate (kindOf (lineOf (drop (r .at) (now (source .entry))))) (r .line) (lineOf (drop (r .at) (now (source .entry)))) (linesOf (drop next (now (source .entry)))) (readIn (now (source .entry)) (placeColumn ls) r fs is ls (tablesIn (now (bodies .entry)) (now (numbers .entry)) (now (shape .entry))))) (1 + takenBy (kindOf (lineOf (drop (r .at) (now (source .entry))))) (linesOf (drop next (now (source .entry))))) (now (source .entry)) (placeColumn ls) r q fs is ls (tablesIn (now (bodies .exit)) (now (numbers .exit)) (now (shape .exit)))) ⌝ }
 {
     let at = r.at;
     if at >= end {
@@ -42,10 +44,10 @@ fn line_step(
         return passed(r, next);
     }
     if b == 64 {
-        return header_step(source, end, next, numbers, shape, r);
+        return header_step(source, end, next, numbers, shape, r, mode);
     }
     if b == 35 {
-        return directive_step(source, end, next, r);
+        return directive_step(source, end, next, r, mode);
     }
     if b == 33 {
         return macro_step(source, end, next, bodies, shape, r);
@@ -84,9 +86,10 @@ pub(crate) fn walk(
     bytes: &mut [u8],
     loops: &mut [usize],
     rate: u32,
+    mode: Mode,
 ) -> Sofar
     requires { ⌜ (length (now source) ≤ 32768) × ((length (now bodies) ≡ 128) × ((length (now numbers) ≡ 6176) × ((length (now shape) ≡ 2272) × ((length (now floats) ≡ 98304) × ((length (now bytes) ≡ 32768) × (length (now loops) ≡ 288)))))) ⌝ }
-    ensures means { λ q. ⌜ readOutcome (now (source .entry)) (placeColumn (now (loops .exit))) q (now (floats .exit)) (now (bytes .exit)) (now (loops .exit)) (tablesIn (now (bodies .exit)) (now (numbers .exit)) (now (shape .exit))) ≡ linesRead rate 0 1 (linesOf (now (source .entry))) nothingRead ⌝ }
+    ensures means { λ q. ⌜ readOutcome (now (source .entry)) (placeColumn (now (loops .exit))) q (now (floats .exit)) (now (bytes .exit)) (now (loops .exit)) (tablesIn (now (bodies .exit)) (now (numbers .exit)) (now (shape .exit))) ≡ linesRead mode rate 0 1 (linesOf (now (source .entry))) nothingRead ⌝ }
     ensures fits { λ q. ⌜ (q .refusal ≡ 0 → Fits (placeColumn (now (loops .exit))) q (now (floats .exit)) (now (bytes .exit)) (now (loops .exit)) × Tabled q (tablesIn (now (bodies .exit)) (now (numbers .exit)) (now (shape .exit)))) ⌝ }
 {
     default_instrument(numbers, shape);
@@ -111,7 +114,7 @@ pub(crate) fn walk(
             return r;
         }
         let line = line_at(source, at);
-        r = line_step(source, line.end, line.next, bodies, numbers, shape, r);
+        r = line_step(source, line.end, line.next, bodies, numbers, shape, r, mode);
         if r.refusal != 0 {
             return r;
         }

@@ -2,7 +2,7 @@
 use mathlib.Core.Path.{_≡_, refl, sym, ap, subst}
 use mathlib.Core.Bool.{Bool, true, false}
 use Prim.Native.Nat.{ℕ, _<_}
-use Rattle.sheet.specs.Refusals.{Outcome, going, refused, _>>=_, _>>_, refuse_on_unless_}
+use Rattle.sheet.specs.Refusals.{Outcome, going, refused, _>>=_, _>>_, refuse_on_unless_, refuse_on_if_}
 
 -- ---- what follows
 
@@ -43,6 +43,11 @@ pub numbered-unless : {A : Type 0} (n l : ℕ) (t : Bool) (rest : Outcome A) →
 unfolding Numbered _>>_ refuse_on_unless_
 numbered-unless n l true rest h k = k
 numbered-unless n l false rest h k = h
+
+pub numbered-if : {A : Type 0} (n l : ℕ) (t : Bool) (rest : Outcome A) → 0 < n → Numbered rest → Numbered (_>>_ (refuse_on_if_ n l t) rest)
+unfolding Numbered _>>_ refuse_on_if_
+numbered-if n l true rest h k = h
+numbered-if n l false rest h k = k
 
 pub numbered-then : {A B : Type 0} (m : Outcome A) (f : A → Outcome B) → Numbered m → ((x : A) → Numbered (f x)) → Numbered (_>>=_ m f)
 unfolding Numbered _>>=_

@@ -20,6 +20,7 @@ use Rattle.evaluator.proofs.Samples.{samples-length}
 use Rattle.windows.specs.Written.{writtenOf, writtenBy, writtenIn}
 use Rattle.engine.specs.Files.{headerOf, headedBy, headerIn}
 use Rattle.engine.proofs.Files.{whole-file}
+use Rattle.strict.specs.declared.mode.Mode.{Mode}
 use Rattle.station.specs.declared.told.Told.{Told}
 use Rattle.station.specs.Calls.{told, written, rate, sheetIn, samplesAsked, headerAsked, headerBytes, headerWritten, windowAsked, sampleBytes, windowWritten, sizeAsked, wavAsked, wavTold, wavWritten}
 use Rattle.station.proofs.Texts.{sheet-passes}
@@ -35,61 +36,61 @@ both-told size o = record { count = told size .count; refusal = told o .refusal;
 
 -- ---- a text that is refused
 
-module _ (source : List ℕ) (n l : ℕ) (e : sheetIn source ≡ refused n l) where
-  pub samples-refused : samplesAsked source ≡ refused n l
+module _ (mode : Mode) (source : List ℕ) (n l : ℕ) (e : sheetIn mode source ≡ refused n l) where
+  pub samples-refused : samplesAsked mode source ≡ refused n l
   unfolding samplesAsked
-  samples-refused = then-refused n l (sheetIn source) _ e
+  samples-refused = then-refused n l (sheetIn mode source) _ e
 
-  pub header-refused : (room : ℕ) → headerAsked source room ≡ refused n l
+  pub header-refused : (room : ℕ) → headerAsked mode source room ≡ refused n l
   unfolding headerAsked
-  header-refused room = then-refused n l (sheetIn source) _ e
+  header-refused room = then-refused n l (sheetIn mode source) _ e
 
-  pub header-kept : (buffer : List ℕ) → headerWritten source buffer ≡ buffer
+  pub header-kept : (buffer : List ℕ) → headerWritten mode source buffer ≡ buffer
   unfolding headerWritten
   header-kept buffer = written-refused buffer 0 n l _ _ (header-refused (length buffer))
 
-  pub window-refused : (start room at : ℕ) → windowAsked source start room at ≡ refused n l
+  pub window-refused : (start room at : ℕ) → windowAsked mode source start room at ≡ refused n l
   unfolding windowAsked
-  window-refused start room at = then-refused n l (sheetIn source) _ e
+  window-refused start room at = then-refused n l (sheetIn mode source) _ e
 
-  pub window-kept : (start : ℕ) (buffer : List ℕ) (at : ℕ) → windowWritten source start buffer at ≡ buffer
+  pub window-kept : (start : ℕ) (buffer : List ℕ) (at : ℕ) → windowWritten mode source start buffer at ≡ buffer
   unfolding windowWritten
   window-kept start buffer at = written-refused buffer at n l _ _ (window-refused start (length buffer) at)
 
-  size-refused : sizeAsked source ≡ refused n l
+  size-refused : sizeAsked mode source ≡ refused n l
   unfolding sizeAsked
-  size-refused = then-refused n l (samplesAsked source) _ samples-refused
+  size-refused = then-refused n l (samplesAsked mode source) _ samples-refused
 
-  wav-refused : (room : ℕ) → wavAsked source room ≡ refused n l
+  wav-refused : (room : ℕ) → wavAsked mode source room ≡ refused n l
   unfolding wavAsked
-  wav-refused room = then-refused n l (sizeAsked source) _ size-refused
+  wav-refused room = then-refused n l (sizeAsked mode source) _ size-refused
 
-  pub wav-told-refused : (room : ℕ) → wavTold source room ≡ told (refused n l)
+  pub wav-told-refused : (room : ℕ) → wavTold mode source room ≡ told (refused n l)
   unfolding wavTold told
   wav-told-refused room = ap₂ both-told size-refused (wav-refused room)
 
-  pub wav-kept : (buffer : List ℕ) → wavWritten source buffer ≡ buffer
+  pub wav-kept : (buffer : List ℕ) → wavWritten mode source buffer ≡ buffer
   unfolding wavWritten
   wav-kept buffer = written-refused buffer 0 n l _ _ (wav-refused (length buffer))
 
 -- ---- a text that is a sheet
 
-module _ (source : List ℕ) (s : Sheet) (e : sheetIn source ≡ going s) where
+module _ (mode : Mode) (source : List ℕ) (s : Sheet) (e : sheetIn mode source ≡ going s) where
   abbrev samples : ℕ
   samples = lengthOf rate s
 
-  pub samples-going : samplesAsked source ≡ going samples
+  pub samples-going : samplesAsked mode source ≡ going samples
   unfolding samplesAsked
-  samples-going = then-going s (sheetIn source) _ e
+  samples-going = then-going s (sheetIn mode source) _ e
 
   -- the engine asks 28 first, and the sheet passes
-  pub header-going : (room : ℕ) → headerAsked source room ≡ headerOf rate s room
+  pub header-going : (room : ℕ) → headerAsked mode source room ≡ headerOf rate s room
   unfolding headerAsked headerOf _>>_ refuse_on_unless_
-  header-going room = then-going s (sheetIn source) _ e ∙ sym (rw (sheet-passes source s e))
+  header-going room = then-going s (sheetIn mode source) _ e ∙ sym (rw (sheet-passes mode source s e))
 
-  pub window-going : (start room at : ℕ) → windowAsked source start room at ≡ writtenOf rate s start room at
+  pub window-going : (start room at : ℕ) → windowAsked mode source start room at ≡ writtenOf rate s start room at
   unfolding windowAsked writtenOf _>>_ refuse_on_unless_
-  window-going start room at = then-going s (sheetIn source) _ e ∙ sym (rw (sheet-passes source s e))
+  window-going start room at = then-going s (sheetIn mode source) _ e ∙ sym (rw (sheet-passes mode source s e))
 
   -- ---- the buffer afterwards
 
@@ -98,7 +99,7 @@ module _ (source : List ℕ) (s : Sheet) (e : sheetIn source ≡ going s) where
   headed buffer (going n) = refl
   headed buffer (refused k l) = refl
 
-  pub header-written : (buffer : List ℕ) → headerWritten source buffer ≡ headerIn rate s buffer
+  pub header-written : (buffer : List ℕ) → headerWritten mode source buffer ≡ headerIn rate s buffer
   unfolding headerWritten headerIn
   header-written buffer =
       ap₂ (λ (o : Outcome ℕ) (i : Outcome Sheet). written buffer 0 (o >>= (λ (n : ℕ). i >>= (λ (t : Sheet). going (headerBytes t))))) (header-going (length buffer)) e
@@ -110,7 +111,7 @@ module _ (source : List ℕ) (s : Sheet) (e : sheetIn source ≡ going s) where
   windowed start buffer at (going n) = refl
   windowed start buffer at (refused k l) = refl
 
-  pub window-written : (start : ℕ) (buffer : List ℕ) (at : ℕ) → windowWritten source start buffer at ≡ writtenIn rate s start buffer at
+  pub window-written : (start : ℕ) (buffer : List ℕ) (at : ℕ) → windowWritten mode source start buffer at ≡ writtenIn rate s start buffer at
   unfolding windowWritten writtenIn
   window-written start buffer at =
       ap₂ (λ (o : Outcome ℕ) (i : Outcome Sheet). written buffer at (o >>= (λ (n : ℕ). i >>= (λ (t : Sheet). going (sampleBytes t start n)))))
@@ -122,47 +123,47 @@ module _ (source : List ℕ) (s : Sheet) (e : sheetIn source ≡ going s) where
   abbrev size : ℕ
   size = 44 + 2 * samples
 
-  size-going : sizeAsked source ≡ going size
+  size-going : sizeAsked mode source ≡ going size
   unfolding sizeAsked
-  size-going = then-going samples (samplesAsked source) _ samples-going
+  size-going = then-going samples (samplesAsked mode source) _ samples-going
 
-  wav-short : (room : ℕ) → room < size → wavAsked source room ≡ refused 30 0
+  wav-short : (room : ℕ) → room < size → wavAsked mode source room ≡ refused 30 0
   unfolding wavAsked _>>_ refuse_on_unless_
-  wav-short room h = then-going size (sizeAsked source) _ size-going ∙ rw (lt-leb size room h)
+  wav-short room h = then-going size (sizeAsked mode source) _ size-going ∙ rw (lt-leb size room h)
 
-  wav-room : (room : ℕ) → size ≤ room → wavAsked source room ≡ going size
+  wav-room : (room : ℕ) → size ≤ room → wavAsked mode source room ≡ going size
   unfolding wavAsked _>>_ refuse_on_unless_
-  wav-room room h = then-going size (sizeAsked source) _ size-going ∙ rw (le-leb size room h)
+  wav-room room h = then-going size (sizeAsked mode source) _ size-going ∙ rw (le-leb size room h)
 
-  pub wav-told-short : (room : ℕ) → room < size → wavTold source room ≡ record { count = size; refusal = 30; line = 0 }
+  pub wav-told-short : (room : ℕ) → room < size → wavTold mode source room ≡ record { count = size; refusal = 30; line = 0 }
   unfolding wavTold told
   wav-told-short room h = ap₂ both-told size-going (wav-short room h)
 
-  pub wav-told-room : (room : ℕ) → size ≤ room → wavTold source room ≡ told (going size)
+  pub wav-told-room : (room : ℕ) → size ≤ room → wavTold mode source room ≡ told (going size)
   unfolding wavTold told
   wav-told-room room h = ap₂ both-told size-going (wav-room room h)
 
-  pub wav-short-kept : (buffer : List ℕ) → length buffer < size → wavWritten source buffer ≡ buffer
+  pub wav-short-kept : (buffer : List ℕ) → length buffer < size → wavWritten mode source buffer ≡ buffer
   unfolding wavWritten
   wav-short-kept buffer h = written-refused buffer 0 30 0 _ _ (wav-short (length buffer) h)
 
-  pub wav-is : (buffer : List ℕ) → size ≤ length buffer → wavWritten source buffer ≡ put buffer 0 (headerBytes s ++ sampleBytes s 0 samples)
+  pub wav-is : (buffer : List ℕ) → size ≤ length buffer → wavWritten mode source buffer ≡ put buffer 0 (headerBytes s ++ sampleBytes s 0 samples)
   unfolding wavWritten written _>>=_
   wav-is buffer h =
       ap₂ (λ (o : Outcome ℕ) (i : Outcome Sheet). written buffer 0 (o >>= (λ (n : ℕ). i >>= (λ (t : Sheet). going (headerBytes t ++ sampleBytes t 0 (lengthOf rate t))))))
       (wav-room (length buffer) h) e
 
   -- the file of the sheet's samples, as 01 has the file of given samples
-  pub wav-file : (buffer : List ℕ) → size ≤ length buffer → wavWritten source buffer ≡ fileIn rate (samplesFrom (placed rate s) 0 samples) buffer
+  pub wav-file : (buffer : List ℕ) → size ≤ length buffer → wavWritten mode source buffer ≡ fileIn rate (samplesFrom (placed rate s) 0 samples) buffer
   unfolding fileIn fitsFile
   wav-file buffer h =
       let xs = samplesFrom (placed rate s) 0 samples in
       let n : length xs ≡ samples = samples-length (placed rate s) 0 samples in
-      let few : samples ≤ 2000000000 = passing rate s (sheet-passes source s e) .length in
+      let few : samples ≤ 2000000000 = passing rate s (sheet-passes mode source s e) .length in
       wav-is buffer h
       ∙ ap (λ (k : ℕ). put buffer 0 (header (oldSize k) rate k ++ bytesOf xs)) (sym n)
       ∙ sym (rw (le-leb (length xs) 2000000000 (omega (arith, n, few)), le-leb (44 + 2 * length xs) (length buffer) (omega (arith, n, h)), fileIn) refl)
 
   -- and so the header with a window of all samples behind it
-  pub wav-pieces : (buffer : List ℕ) → size ≤ length buffer → writtenIn rate s 0 (headerIn rate s buffer) 44 ≡ wavWritten source buffer
-  wav-pieces buffer h = whole-file rate s buffer (sheet-passes source s e) h ∙ sym (wav-file buffer h)
+  pub wav-pieces : (buffer : List ℕ) → size ≤ length buffer → writtenIn rate s 0 (headerIn rate s buffer) 44 ≡ wavWritten mode source buffer
+  wav-pieces buffer h = whole-file rate s buffer (sheet-passes mode source s e) h ∙ sym (wav-file buffer h)

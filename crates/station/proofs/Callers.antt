@@ -11,7 +11,7 @@ use Rattle.form.proofs.Published.{header-length}
 use Rattle.sheet.specs.declared.sheet.Sheet.{Sheet}
 use Rattle.sheet.specs.Parts.{lengthOf}
 use Rattle.sheet.specs.Refusals.{Outcome, going, refused, _>>=_, _>>_}
-use Rattle.sheet.proofs.Outcomes.{Numbered, numbered-going, numbered-unless, numbered-then}
+use Rattle.sheet.proofs.Outcomes.{Numbered, numbered-going, numbered-unless, numbered-if, numbered-then}
 use Rattle.engine.specs.Stream.{fileOf}
 use Rattle.engine.proofs.Answers.{header-taken, header-written as header-put}
 use Rattle.windows.proofs.Windows.{written-is, written-cut, both-put}
@@ -19,9 +19,10 @@ use Rattle.engine.proofs.HandedOn.{file-passing}
 use Rattle.meaning.specs.Sheets.{Read, sheetRead, lengthRead}
 use Rattle.meaning.specs.Layout.{sheetOf}
 use Rattle.meaning.proofs.Laid.{laid-length}
+use Rattle.strict.specs.declared.mode.Mode.{Mode}
 use Rattle.station.specs.declared.told.Told.{Told}
 use Rattle.station.specs.Calls.{told, rate, sheetIn, samplesAsked, headerAsked, headerBytes, headerWritten, windowAsked, sampleBytes, windowWritten, sizeAsked, wavAsked, wavWritten}
-use Rattle.station.proofs.Numbers.{sheet-numbered, numbered-if}
+use Rattle.station.proofs.Numbers.{sheet-numbered}
 use Rattle.station.proofs.Texts.{sheet-passes}
 use Rattle.station.proofs.Asked.{header-written, window-kept, window-written, wav-is}
 
@@ -42,36 +43,36 @@ told-going (going n) h z = refl
 told-going (refused n l) h z = absurd (omega (arith, h, z))
 
 -- no refusal of a call has the number 0
-text-numbered : (source : List ℕ) → Numbered (sheetIn source)
+text-numbered : (mode : Mode) (source : List ℕ) → Numbered (sheetIn mode source)
 unfolding sheetIn
-text-numbered source = numbered-then _ _ (sheet-numbered rate source) (λ r. numbered-going _)
+text-numbered mode source = numbered-then _ _ (sheet-numbered mode rate source) (λ r. numbered-going _)
 
-pub samples-numbered : (source : List ℕ) → Numbered (samplesAsked source)
+pub samples-numbered : (mode : Mode) (source : List ℕ) → Numbered (samplesAsked mode source)
 unfolding samplesAsked
-samples-numbered source = numbered-then _ _ (text-numbered source) (λ s. numbered-going _)
+samples-numbered mode source = numbered-then _ _ (text-numbered mode source) (λ s. numbered-going _)
 
-pub header-numbered : (source : List ℕ) (room : ℕ) → Numbered (headerAsked source room)
+pub header-numbered : (mode : Mode) (source : List ℕ) (room : ℕ) → Numbered (headerAsked mode source room)
 unfolding headerAsked
-header-numbered source room = numbered-then _ _ (text-numbered source) (λ s. numbered-unless _ _ _ _ (omega arith) (numbered-going _))
+header-numbered mode source room = numbered-then _ _ (text-numbered mode source) (λ s. numbered-unless _ _ _ _ (omega arith) (numbered-going _))
 
-pub window-numbered : (source : List ℕ) (start room at : ℕ) → Numbered (windowAsked source start room at)
+pub window-numbered : (mode : Mode) (source : List ℕ) (start room at : ℕ) → Numbered (windowAsked mode source start room at)
 unfolding windowAsked
-window-numbered source start room at =
-    numbered-then _ _ (text-numbered source)
+window-numbered mode source start room at =
+    numbered-then _ _ (text-numbered mode source)
     (λ s. numbered-unless _ _ _ _ (omega arith)
     (numbered-unless _ _ _ _ (omega arith) (numbered-if _ _ _ _ (omega arith) (numbered-going _))))
 
-pub wav-numbered : (source : List ℕ) (room : ℕ) → Numbered (wavAsked source room)
+pub wav-numbered : (mode : Mode) (source : List ℕ) (room : ℕ) → Numbered (wavAsked mode source room)
 unfolding wavAsked sizeAsked
-wav-numbered source room =
-    numbered-then _ _ (numbered-then _ _ (samples-numbered source) (λ n. numbered-going _)) (λ n. numbered-unless _ _ _ _ (omega arith) (numbered-going n))
+wav-numbered mode source room =
+    numbered-then _ _ (numbered-then _ _ (samples-numbered mode source) (λ n. numbered-going _)) (λ n. numbered-unless _ _ _ _ (omega arith) (numbered-going n))
 
 -- ---- the samples
 
 -- the samples are counted as the reading counts them for 27
-pub samples-read : (source : List ℕ) → samplesAsked source ≡ (sheetRead rate source >>= (λ (r : Read). going (lengthRead rate r)))
+pub samples-read : (mode : Mode) (source : List ℕ) → samplesAsked mode source ≡ (sheetRead mode rate source >>= (λ (r : Read). going (lengthRead rate r)))
 unfolding samplesAsked sheetIn _>>=_
-samples-read source = go (sheetRead rate source)
+samples-read mode source = go (sheetRead mode rate source)
   where
     go : (o : Outcome Read) → ((o >>= (λ (r : Read). going (sheetOf (r .parts) (r .instruments)))) >>= (λ (s : Sheet). going (lengthOf rate s))) ≡ (o >>= (λ (r : Read). going (lengthRead rate r)))
     go (going r) = ap going (laid-length rate r)
@@ -80,36 +81,36 @@ samples-read source = go (sheetRead rate source)
 -- ---- the file
 
 -- the file that the program `cue` hands on
-pub wav-handed : (source : List ℕ) (s : Sheet) (buffer : List ℕ) → sheetIn source ≡ going s → 44 + 2 * lengthOf rate s ≤ length buffer
-    → wavWritten source buffer ≡ put buffer 0 (fileOf rate s)
-wav-handed source s buffer e h = wav-is source s e buffer h ∙ ap (put buffer 0) (sym (file-passing rate s (sheet-passes source s e)))
+pub wav-handed : (mode : Mode) (source : List ℕ) (s : Sheet) (buffer : List ℕ) → sheetIn mode source ≡ going s → 44 + 2 * lengthOf rate s ≤ length buffer
+    → wavWritten mode source buffer ≡ put buffer 0 (fileOf rate s)
+wav-handed mode source s buffer e h = wav-is mode source s e buffer h ∙ ap (put buffer 0) (sym (file-passing rate s (sheet-passes mode source s e)))
 
 -- the header in the first 44 bytes, and a window in the bytes behind them
-pub wav-cut : (source : List ℕ) (s : Sheet) (h b : List ℕ) → sheetIn source ≡ going s → length h ≡ 44 → 2 * lengthOf rate s ≤ length b
-    → wavWritten source (h ++ b) ≡ headerWritten source h ++ windowWritten source 0 b 0
+pub wav-cut : (mode : Mode) (source : List ℕ) (s : Sheet) (h b : List ℕ) → sheetIn mode source ≡ going s → length h ≡ 44 → 2 * lengthOf rate s ≤ length b
+    → wavWritten mode source (h ++ b) ≡ headerWritten mode source h ++ windowWritten mode source 0 b 0
 unfolding roomAt
-wav-cut source s h b e l m =
-    let p = sheet-passes source s e in
+wav-cut mode source s h b e l m =
+    let p = sheet-passes mode source s e in
     let n = lengthOf rate s in
     let room : 44 + 2 * n ≤ length (h ++ b) = omega (arith, length-append h b) in
     let all : min ((length b - 0) / 2) (n - 0) ≡ n = omega arith in
-    wav-is source s e (h ++ b) room
+    wav-is mode source s e (h ++ b) room
     ∙ both-put h b (headerBytes s) (sampleBytes s 0 n) (header-length (oldSize n) rate n ∙ sym l)
     ∙ sym
     (ap₂ (λ (x y : List ℕ). x ++ y)
-    (header-written source s e h ∙ header-put rate s h 44 (header-taken rate s h p (omega arith)))
-    (window-written source s e 0 b 0 ∙ written-is rate s p 0 b 0 ∙ ap (λ (k : ℕ). put b 0 (sampleBytes s 0 k)) all))
+    (header-written mode source s e h ∙ header-put rate s h 44 (header-taken rate s h p (omega arith)))
+    (window-written mode source s e 0 b 0 ∙ written-is rate s p 0 b 0 ∙ ap (λ (k : ℕ). put b 0 (sampleBytes s 0 k)) all))
 
 -- windows one after the other give the bytes of one large window, refusals and all
-pub windows-cut : (source : List ℕ) (start a : ℕ) (xs ys : List ℕ) → length xs ≡ 2 * a
-    → windowWritten source start (xs ++ ys) 0 ≡ windowWritten source start xs 0 ++ windowWritten source (start + a) ys 0
-windows-cut source start a xs ys h = go (sheetIn source) refl
+pub windows-cut : (mode : Mode) (source : List ℕ) (start a : ℕ) (xs ys : List ℕ) → length xs ≡ 2 * a
+    → windowWritten mode source start (xs ++ ys) 0 ≡ windowWritten mode source start xs 0 ++ windowWritten mode source (start + a) ys 0
+windows-cut mode source start a xs ys h = go (sheetIn mode source) refl
   where
-    go : (o : Outcome Sheet) → sheetIn source ≡ o → windowWritten source start (xs ++ ys) 0 ≡ windowWritten source start xs 0 ++ windowWritten source (start + a) ys 0
+    go : (o : Outcome Sheet) → sheetIn mode source ≡ o → windowWritten mode source start (xs ++ ys) 0 ≡ windowWritten mode source start xs 0 ++ windowWritten mode source (start + a) ys 0
     go (going s) e =
-        window-written source s e start (xs ++ ys) 0
+        window-written mode source s e start (xs ++ ys) 0
         ∙ written-cut rate s start a xs ys h
-        ∙ sym (ap₂ (λ (x y : List ℕ). x ++ y) (window-written source s e start xs 0) (window-written source s e (start + a) ys 0))
+        ∙ sym (ap₂ (λ (x y : List ℕ). x ++ y) (window-written mode source s e start xs 0) (window-written mode source s e (start + a) ys 0))
     go (refused n l) e =
-        window-kept source n l e start (xs ++ ys) 0
-        ∙ sym (ap₂ (λ (x y : List ℕ). x ++ y) (window-kept source n l e start xs 0) (window-kept source n l e (start + a) ys 0))
+        window-kept mode source n l e start (xs ++ ys) 0
+        ∙ sym (ap₂ (λ (x y : List ℕ). x ++ y) (window-kept mode source n l e start xs 0) (window-kept mode source n l e (start + a) ys 0))

@@ -1,14 +1,14 @@
 -- The number of a refused text is not 0, so a caller may take 0 for none: each kind of line refuses with numbers of its own, and so does the end. Assumes
 -- nothing.
-use mathlib.Core.Bool.{Bool, true, false}
 use mathlib.Core.List.{List, [], _∷_}
 use mathlib.Core.Option.{Option, none, some}
-use Prim.Native.Nat.{ℕ, zero, suc, _+_, _<_}
+use Prim.Native.Nat.{ℕ, zero, suc, _+_}
 use native.Mathlib.Omega.{arith}
 use Rattle.lines.specs.Lines.{linesOf}
 use Rattle.lines.specs.Tokens.{Named, namedOf}
-use Rattle.sheet.specs.Refusals.{Outcome, going, refused, _>>_, refuse_on_if_}
-use Rattle.sheet.proofs.Outcomes.{Numbered, numbered-going, numbered-unless, numbered-then}
+use Rattle.sheet.specs.Refusals.{Outcome, going, refused}
+use Rattle.sheet.proofs.Outcomes.{Numbered, numbered-going, numbered-unless, numbered-if, numbered-then}
+use Rattle.strict.specs.declared.mode.Mode.{Mode}
 use Rattle.environment.specs.declared.environment.Environment.{Environment}
 use Rattle.operators.specs.OperatorLines.{operatorLines, operatorsRead}
 use Rattle.blocks.proofs.Reading.{line-numbered}
@@ -18,11 +18,6 @@ use Rattle.meaning.specs.Sheets.{Read, Kind, skipped, headerLine, directiveLine
 use Rattle.parser.proofs.Bodies.{body-numbered}
 use Rattle.parser.proofs.Numbers.{At, directive-numbered, macro-at, header-at}
 
-pub numbered-if : {A : Type 0} (n l : ℕ) (t : Bool) (rest : Outcome A) → 0 < n → Numbered rest → Numbered (_>>_ (refuse_on_if_ n l t) rest)
-unfolding Numbered _>>_ refuse_on_if_
-numbered-if n l true rest h k = h
-numbered-if n l false rest h k = k
-
 at-numbered : {A : Type 0} (line : ℕ) (o : Outcome A) → At line o → Numbered o
 unfolding At Numbered
 at-numbered line (going x) h = tt
@@ -30,22 +25,22 @@ at-numbered line (refused n l) h = h .0
 
 -- ---- a line of each kind
 
-operators-numbered : (before : Option ℕ) (line above : ℕ) (ls : List (List ℕ)) → Numbered (operatorsRead before line above ls)
+operators-numbered : (mode : Mode) (before : Option ℕ) (line above : ℕ) (ls : List (List ℕ)) → Numbered (operatorsRead mode before line above ls)
 unfolding operatorsRead
-operators-numbered before line above [] = numbered-going []
-operators-numbered before line above (l ∷ ls) =
-    numbered-then _ _ (line-numbered line before above l)
-    (λ o. numbered-then _ _ (operators-numbered (some (o .indent)) (line + 1) (above + 1) ls) (λ os. numbered-going (o ∷ os)))
+operators-numbered mode before line above [] = numbered-going []
+operators-numbered mode before line above (l ∷ ls) =
+    numbered-then _ _ (line-numbered mode line before above l)
+    (λ o. numbered-then _ _ (operators-numbered mode (some (o .indent)) (line + 1) (above + 1) ls) (λ os. numbered-going (o ∷ os)))
 
-header-numbered : (line : ℕ) (name : List ℕ) (below : List (List ℕ)) (r : Read) → Numbered (headerRead line name below r)
+header-numbered : (mode : Mode) (line : ℕ) (name : List ℕ) (below : List (List ℕ)) (r : Read) → Numbered (headerRead mode line name below r)
 unfolding headerRead
-header-numbered line name below r =
+header-numbered mode line name below r =
     numbered-then _ _ (at-numbered line _ (header-at line name (r .names)))
-    (λ n. numbered-then _ _ (operators-numbered none (line + 1) 0 (operatorLines below)) (λ os. numbered-going _))
+    (λ n. numbered-then _ _ (operators-numbered mode none (line + 1) 0 (operatorLines below)) (λ os. numbered-going _))
 
-directive-line-numbered : (line : ℕ) (l : List ℕ) (r : Read) → Numbered (directiveRead line l r)
+directive-line-numbered : (mode : Mode) (line : ℕ) (l : List ℕ) (r : Read) → Numbered (directiveRead mode line l r)
 unfolding directiveRead
-directive-line-numbered line l r = numbered-then _ _ (directive-numbered line l) (λ f. numbered-going _)
+directive-line-numbered mode line l r = numbered-then _ _ (directive-numbered mode line l) (λ f. numbered-going _)
 
 macro-numbered : (line : ℕ) (l : List ℕ) (r : Read) → Numbered (macroRead line l r)
 unfolding macroRead
@@ -69,29 +64,29 @@ part-numbered rate line n r = numbered-then _ _ (played-numbered (bookOf rate r)
 
 -- ---- all lines
 
-line-read-numbered : (rate : ℕ) (k : Kind) (line : ℕ) (l : List ℕ) (below : List (List ℕ)) (r : Read) → Numbered (lineRead rate k line l below r)
+line-read-numbered : (mode : Mode) (rate : ℕ) (k : Kind) (line : ℕ) (l : List ℕ) (below : List (List ℕ)) (r : Read) → Numbered (lineRead mode rate k line l below r)
 unfolding lineRead
-line-read-numbered rate skipped line l below r = numbered-going r
-line-read-numbered rate headerLine line l below r = header-numbered line l below r
-line-read-numbered rate directiveLine line l below r = directive-line-numbered line l r
-line-read-numbered rate macroLine line l below r = macro-numbered line l r
-line-read-numbered rate partLine line l below r = part-numbered rate line (namedOf l) r
+line-read-numbered mode rate skipped line l below r = numbered-going r
+line-read-numbered mode rate headerLine line l below r = header-numbered mode line l below r
+line-read-numbered mode rate directiveLine line l below r = directive-line-numbered mode line l r
+line-read-numbered mode rate macroLine line l below r = macro-numbered line l r
+line-read-numbered mode rate partLine line l below r = part-numbered rate line (namedOf l) r
 
-lines-numbered : (rate k line : ℕ) (ls : List (List ℕ)) (r : Read) → Numbered (linesRead rate k line ls r)
+lines-numbered : (mode : Mode) (rate k line : ℕ) (ls : List (List ℕ)) (r : Read) → Numbered (linesRead mode rate k line ls r)
 unfolding linesRead
-lines-numbered rate k line [] r = numbered-going r
-lines-numbered rate (suc k) line (l ∷ ls) r = lines-numbered rate k (line + 1) ls r
-lines-numbered rate zero line (l ∷ ls) r =
-    numbered-then _ _ (line-read-numbered rate (kindOf l) line l ls r) (λ q. lines-numbered rate (takenBy (kindOf l) ls) (line + 1) ls q)
+lines-numbered mode rate k line [] r = numbered-going r
+lines-numbered mode rate (suc k) line (l ∷ ls) r = lines-numbered mode rate k (line + 1) ls r
+lines-numbered mode rate zero line (l ∷ ls) r =
+    numbered-then _ _ (line-read-numbered mode rate (kindOf l) line l ls r) (λ q. lines-numbered mode rate (takenBy (kindOf l) ls) (line + 1) ls q)
 
 ended-numbered : (rate : ℕ) (r : Read) → Numbered (ended rate r)
 unfolding ended
 ended-numbered rate r =
     numbered-if _ _ _ _ (omega arith) (numbered-if _ _ _ _ (omega arith) (numbered-unless _ _ _ _ (omega arith) (numbered-going r)))
 
-pub sheet-numbered : (rate : ℕ) (source : List ℕ) → Numbered (sheetRead rate source)
+pub sheet-numbered : (mode : Mode) (rate : ℕ) (source : List ℕ) → Numbered (sheetRead mode rate source)
 unfolding sheetRead
-sheet-numbered rate source =
+sheet-numbered mode rate source =
     numbered-unless _ _ _ _ (omega arith)
     (numbered-unless _ _ _ _ (omega arith)
-    (numbered-then _ _ (lines-numbered rate 0 1 (linesOf source) nothingRead) (λ r. ended-numbered rate r)))
+    (numbered-then _ _ (lines-numbered mode rate 0 1 (linesOf source) nothingRead) (λ r. ended-numbered rate r)))

@@ -14,6 +14,7 @@ use Rattle.meaning.specs.declared.reading.Reading.{Reading}
 use Rattle.meaning.specs.Sheets.{Read, sheetRead}
 use Rattle.meaning.specs.Layout.{sheetOf, laidOut, readingOf}
 use Rattle.meaning.proofs.Handed.{accepted-passes}
+use Rattle.strict.specs.declared.mode.Mode.{Mode}
 use Rattle.station.specs.Calls.{rate, sheetIn}
 use Rattle.station.proofs.Numbers.{sheet-numbered}
 
@@ -22,16 +23,16 @@ use Rattle.station.proofs.Numbers.{sheet-numbered}
 abbrev pub Passes : Sheet → Type 0
 Passes s = isSheet rate s ≡ true
 
-pub text-passes : (source : List ℕ) → Holds Passes (sheetIn source)
+pub text-passes : (mode : Mode) (source : List ℕ) → Holds Passes (sheetIn mode source)
 unfolding sheetIn _>>=_
-text-passes source = go (sheetRead rate source) refl
+text-passes mode source = go (sheetRead mode rate source) refl
   where
-    go : (o : Outcome Read) → sheetRead rate source ≡ o → Holds Passes (o >>= (λ r. going (sheetOf (r .parts) (r .instruments))))
-    go (going r) e = holds-going Passes _ (accepted-passes rate source r e)
+    go : (o : Outcome Read) → sheetRead mode rate source ≡ o → Holds Passes (o >>= (λ r. going (sheetOf (r .parts) (r .instruments))))
+    go (going r) e = holds-going Passes _ (accepted-passes mode rate source r e)
     go (refused n l) e = holds-refused Passes n l
 
-pub sheet-passes : (source : List ℕ) (s : Sheet) → sheetIn source ≡ going s → isSheet rate s ≡ true
-sheet-passes source s e = holds-of Passes s (subst (Holds Passes) e (text-passes source))
+pub sheet-passes : (mode : Mode) (source : List ℕ) (s : Sheet) → sheetIn mode source ≡ going s → isSheet rate s ≡ true
+sheet-passes mode source s e = holds-of Passes s (subst (Holds Passes) e (text-passes mode source))
 
 -- ---- a reading
 
@@ -46,14 +47,14 @@ unfolding _>>=_ laidOut Numbered
 going-by (going r) k z = refl
 going-by (refused n l) k z = absurd (omega (arith, k, z))
 
-module _ (source : List ℕ) (x : Reading) (e : x ≡ readingOf rate source) where
-  pub text-refused : (x .refusal ≡ 0 → ⊥) → sheetIn source ≡ refused (x .refusal) (x .line)
+module _ (mode : Mode) (source : List ℕ) (x : Reading) (e : x ≡ readingOf mode rate source) where
+  pub text-refused : (x .refusal ≡ 0 → ⊥) → sheetIn mode source ≡ refused (x .refusal) (x .line)
   unfolding sheetIn readingOf
   text-refused =
-      subst (λ (y : Reading). (y .refusal ≡ 0 → ⊥) → sheetIn source ≡ refused (y .refusal) (y .line)) (sym e) (refused-by (sheetRead rate source))
+      subst (λ (y : Reading). (y .refusal ≡ 0 → ⊥) → sheetIn mode source ≡ refused (y .refusal) (y .line)) (sym e) (refused-by (sheetRead mode rate source))
 
-  pub text-going : x .refusal ≡ 0 → sheetIn source ≡ going (x .sheet)
+  pub text-going : x .refusal ≡ 0 → sheetIn mode source ≡ going (x .sheet)
   unfolding sheetIn readingOf
   text-going =
-      subst (λ (y : Reading). y .refusal ≡ 0 → sheetIn source ≡ going (y .sheet)) (sym e)
-      (going-by (sheetRead rate source) (sheet-numbered rate source))
+      subst (λ (y : Reading). y .refusal ≡ 0 → sheetIn mode source ≡ going (y .sheet)) (sym e)
+      (going-by (sheetRead mode rate source) (sheet-numbered mode rate source))

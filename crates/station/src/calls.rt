@@ -1,22 +1,38 @@
-// The calls that the static library has under these names. Each reads the text once, answers a count, and puts the number and the line of a refusal where
+// The calls that the static library has under these names. Each reads the text once, in the mode that is asked, answers a count, and puts the number and the line of a refusal where
 // the caller wants them: 0 and 0 where there is none. After a refusal every byte of the buffer is as it was.
 
 ghost use mathlib.Core.Path.{_≡_};
 ghost use lib.ListN.{length};
-ghost use Rattle.station.specs.Calls.{told, samplesAsked, headerAsked, headerWritten, windowAsked, windowWritten, wavTold, wavWritten};
+ghost use Rattle.station.specs.Calls.{told, samplesAsked, headerAsked, headerWritten, windowAsked, windowWritten, wavTold, wavWritten, modeNumbered};
 use crate::told::header_of;
 use crate::told::samples_of;
 use crate::told::wav_of;
 use crate::told::window_of;
+use strict::mode::Mode;
+
+// The mode that a number stands for: 0 is plain, and every other number is strict.
+fn mode_of(number: u32) -> Mode
+    ensures { λ r. ⌜ r ≡ modeNumbered number ⌝ }
+{
+    if number == 0 {
+        return Mode::Plain;
+    }
+    Mode::Strict
+}
 
 // How many samples a sheet has, 0 where it is refused.
 #[no_mangle]
-pub extern "C" fn cue_samples(source: &[u8], refusal: &mut u32, line: &mut usize) -> usize
-    ensures count { λ r. ⌜ r ≡ told (samplesAsked (now (source .entry))) .count ⌝ }
-    ensures number { λ _. ⌜ now (refusal .exit) ≡ told (samplesAsked (now (source .entry))) .refusal ⌝ }
-    ensures line { λ _. ⌜ now (line .exit) ≡ told (samplesAsked (now (source .entry))) .line ⌝ }
+pub extern "C" fn cue_samples(
+    source: &[u8],
+    mode: u32,
+    refusal: &mut u32,
+    line: &mut usize,
+) -> usize
+    ensures count { λ r. ⌜ r ≡ told (samplesAsked (modeNumbered mode) (now (source .entry))) .count ⌝ }
+    ensures number { λ _. ⌜ now (refusal .exit) ≡ told (samplesAsked (modeNumbered mode) (now (source .entry))) .refusal ⌝ }
+    ensures line { λ _. ⌜ now (line .exit) ≡ told (samplesAsked (modeNumbered mode) (now (source .entry))) .line ⌝ }
 {
-    let answer = samples_of(source);
+    let answer = samples_of(source, mode_of(mode));
     *refusal = answer.refusal;
     *line = answer.line;
     answer.count
@@ -27,16 +43,17 @@ pub extern "C" fn cue_samples(source: &[u8], refusal: &mut u32, line: &mut usize
 #[no_mangle]
 pub extern "C" fn cue_wav(
     source: &[u8],
+    mode: u32,
     buffer: &mut [u8],
     refusal: &mut u32,
     line: &mut usize,
 ) -> usize
-    ensures size { λ r. ⌜ r ≡ wavTold (now (source .entry)) (length (now (buffer .entry))) .count ⌝ }
-    ensures number { λ _. ⌜ now (refusal .exit) ≡ wavTold (now (source .entry)) (length (now (buffer .entry))) .refusal ⌝ }
-    ensures line { λ _. ⌜ now (line .exit) ≡ wavTold (now (source .entry)) (length (now (buffer .entry))) .line ⌝ }
-    ensures bytes { λ _. ⌜ now (buffer .exit) ≡ wavWritten (now (source .entry)) (now (buffer .entry)) ⌝ }
+    ensures size { λ r. ⌜ r ≡ wavTold (modeNumbered mode) (now (source .entry)) (length (now (buffer .entry))) .count ⌝ }
+    ensures number { λ _. ⌜ now (refusal .exit) ≡ wavTold (modeNumbered mode) (now (source .entry)) (length (now (buffer .entry))) .refusal ⌝ }
+    ensures line { λ _. ⌜ now (line .exit) ≡ wavTold (modeNumbered mode) (now (source .entry)) (length (now (buffer .entry))) .line ⌝ }
+    ensures bytes { λ _. ⌜ now (buffer .exit) ≡ wavWritten (modeNumbered mode) (now (source .entry)) (now (buffer .entry)) ⌝ }
 {
-    let answer = wav_of(source, buffer);
+    let answer = wav_of(source, mode_of(mode), buffer);
     *refusal = answer.refusal;
     *line = answer.line;
     answer.count
@@ -46,16 +63,17 @@ pub extern "C" fn cue_wav(
 #[no_mangle]
 pub extern "C" fn cue_header(
     source: &[u8],
+    mode: u32,
     buffer: &mut [u8],
     refusal: &mut u32,
     line: &mut usize,
 ) -> usize
-    ensures count { λ r. ⌜ r ≡ told (headerAsked (now (source .entry)) (length (now (buffer .entry)))) .count ⌝ }
-    ensures number { λ _. ⌜ now (refusal .exit) ≡ told (headerAsked (now (source .entry)) (length (now (buffer .entry)))) .refusal ⌝ }
-    ensures line { λ _. ⌜ now (line .exit) ≡ told (headerAsked (now (source .entry)) (length (now (buffer .entry)))) .line ⌝ }
-    ensures bytes { λ _. ⌜ now (buffer .exit) ≡ headerWritten (now (source .entry)) (now (buffer .entry)) ⌝ }
+    ensures count { λ r. ⌜ r ≡ told (headerAsked (modeNumbered mode) (now (source .entry)) (length (now (buffer .entry)))) .count ⌝ }
+    ensures number { λ _. ⌜ now (refusal .exit) ≡ told (headerAsked (modeNumbered mode) (now (source .entry)) (length (now (buffer .entry)))) .refusal ⌝ }
+    ensures line { λ _. ⌜ now (line .exit) ≡ told (headerAsked (modeNumbered mode) (now (source .entry)) (length (now (buffer .entry)))) .line ⌝ }
+    ensures bytes { λ _. ⌜ now (buffer .exit) ≡ headerWritten (modeNumbered mode) (now (source .entry)) (now (buffer .entry)) ⌝ }
 {
-    let answer = header_of(source, buffer);
+    let answer = header_of(source, mode_of(mode), buffer);
     *refusal = answer.refusal;
     *line = answer.line;
     answer.count
@@ -66,18 +84,19 @@ pub extern "C" fn cue_header(
 #[no_mangle]
 pub extern "C" fn cue_window(
     source: &[u8],
+    mode: u32,
     start: usize,
     buffer: &mut [u8],
     place: usize,
     refusal: &mut u32,
     line: &mut usize,
 ) -> usize
-    ensures count { λ r. ⌜ r ≡ told (windowAsked (now (source .entry)) start (length (now (buffer .entry))) place) .count ⌝ }
-    ensures number { λ _. ⌜ now (refusal .exit) ≡ told (windowAsked (now (source .entry)) start (length (now (buffer .entry))) place) .refusal ⌝ }
-    ensures line { λ _. ⌜ now (line .exit) ≡ told (windowAsked (now (source .entry)) start (length (now (buffer .entry))) place) .line ⌝ }
-    ensures bytes { λ _. ⌜ now (buffer .exit) ≡ windowWritten (now (source .entry)) start (now (buffer .entry)) place ⌝ }
+    ensures count { λ r. ⌜ r ≡ told (windowAsked (modeNumbered mode) (now (source .entry)) start (length (now (buffer .entry))) place) .count ⌝ }
+    ensures number { λ _. ⌜ now (refusal .exit) ≡ told (windowAsked (modeNumbered mode) (now (source .entry)) start (length (now (buffer .entry))) place) .refusal ⌝ }
+    ensures line { λ _. ⌜ now (line .exit) ≡ told (windowAsked (modeNumbered mode) (now (source .entry)) start (length (now (buffer .entry))) place) .line ⌝ }
+    ensures bytes { λ _. ⌜ now (buffer .exit) ≡ windowWritten (modeNumbered mode) (now (source .entry)) start (now (buffer .entry)) place ⌝ }
 {
-    let answer = window_of(source, start, buffer, place);
+    let answer = window_of(source, mode_of(mode), start, buffer, place);
     *refusal = answer.refusal;
     *line = answer.line;
     answer.count

@@ -9,6 +9,7 @@ use engine::file::write_header;
 use handed::check::check;
 use parser::reader::read;
 use sheet::answer::Answer;
+use strict::mode::Mode;
 use windows::window::write_window;
 
 // What a caller is told: how many, a refusal's number, 0 for none, and its line.
@@ -51,10 +52,10 @@ fn told_of(answer: Answer) -> Told
 }
 
 // How many samples a text has.
-pub(crate) fn samples_of(source: &[u8]) -> Told
-    ensures { λ r. ⌜ r ≡ told (samplesAsked (now (source .entry))) ⌝ }
+pub(crate) fn samples_of(source: &[u8], mode: Mode) -> Told
+    ensures { λ r. ⌜ r ≡ told (samplesAsked mode (now (source .entry))) ⌝ }
 {
-    let reading = read(source);
+    let reading = read(source, mode);
     if reading.refusal != 0 {
         return turned_away(reading.refusal, reading.line);
     }
@@ -62,11 +63,11 @@ pub(crate) fn samples_of(source: &[u8]) -> Told
 }
 
 // The header of a text's file, in the buffer's first 44 bytes.
-pub(crate) fn header_of(source: &[u8], buffer: &mut [u8]) -> Told
-    ensures answer { λ r. ⌜ r ≡ told (headerAsked (now (source .entry)) (length (now (buffer .entry)))) ⌝ }
-    ensures bytes { λ _. ⌜ now (buffer .exit) ≡ headerWritten (now (source .entry)) (now (buffer .entry)) ⌝ }
+pub(crate) fn header_of(source: &[u8], mode: Mode, buffer: &mut [u8]) -> Told
+    ensures answer { λ r. ⌜ r ≡ told (headerAsked mode (now (source .entry)) (length (now (buffer .entry)))) ⌝ }
+    ensures bytes { λ _. ⌜ now (buffer .exit) ≡ headerWritten mode (now (source .entry)) (now (buffer .entry)) ⌝ }
 {
-    let reading = read(source);
+    let reading = read(source, mode);
     if reading.refusal != 0 {
         return turned_away(reading.refusal, reading.line);
     }
@@ -74,11 +75,17 @@ pub(crate) fn header_of(source: &[u8], buffer: &mut [u8]) -> Told
 }
 
 // The samples of a text from `start` on that exist and fit whole, as bytes from `place` on.
-pub(crate) fn window_of(source: &[u8], start: usize, buffer: &mut [u8], place: usize) -> Told
-    ensures answer { λ r. ⌜ r ≡ told (windowAsked (now (source .entry)) start (length (now (buffer .entry))) place) ⌝ }
-    ensures bytes { λ _. ⌜ now (buffer .exit) ≡ windowWritten (now (source .entry)) start (now (buffer .entry)) place ⌝ }
+pub(crate) fn window_of(
+    source: &[u8],
+    mode: Mode,
+    start: usize,
+    buffer: &mut [u8],
+    place: usize,
+) -> Told
+    ensures answer { λ r. ⌜ r ≡ told (windowAsked mode (now (source .entry)) start (length (now (buffer .entry))) place) ⌝ }
+    ensures bytes { λ _. ⌜ now (buffer .exit) ≡ windowWritten mode (now (source .entry)) start (now (buffer .entry)) place ⌝ }
 {
-    let reading = read(source);
+    let reading = read(source, mode);
     if reading.refusal != 0 {
         return turned_away(reading.refusal, reading.line);
     }
@@ -86,11 +93,11 @@ pub(crate) fn window_of(source: &[u8], start: usize, buffer: &mut [u8], place: u
 }
 
 // The whole file of a text, in the buffer's first bytes; the count is the file's size, also where the buffer has fewer.
-pub(crate) fn wav_of(source: &[u8], buffer: &mut [u8]) -> Told
-    ensures answer { λ r. ⌜ r ≡ wavTold (now (source .entry)) (length (now (buffer .entry))) ⌝ }
-    ensures bytes { λ _. ⌜ now (buffer .exit) ≡ wavWritten (now (source .entry)) (now (buffer .entry)) ⌝ }
+pub(crate) fn wav_of(source: &[u8], mode: Mode, buffer: &mut [u8]) -> Told
+    ensures answer { λ r. ⌜ r ≡ wavTold mode (now (source .entry)) (length (now (buffer .entry))) ⌝ }
+    ensures bytes { λ _. ⌜ now (buffer .exit) ≡ wavWritten mode (now (source .entry)) (now (buffer .entry)) ⌝ }
 {
-    let text = read(source);
+    let text = read(source, mode);
     if text.refusal != 0 {
         return turned_away(text.refusal, text.line);
     }

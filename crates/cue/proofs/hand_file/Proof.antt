@@ -16,10 +16,10 @@ use Rattle.cue.proofs.hand_file.Statement.{statement}
 use Rattle.cue.proofs.hand_file.Tie as tie
 
 abbrev Inv-loop : tie.InvT-loop
-Inv-loop source sheet reached₀ buffer₀ later₀ reached buffer later = (length buffer ≡ 65536) × ((reached ≡ later .at) × Begins (length (fileOf 44100 sheet)) (later .at))
+Inv-loop mode source sheet reached₀ buffer₀ later₀ reached buffer later = (length buffer ≡ 65536) × ((reached ≡ later .at) × Begins (length (fileOf 44100 sheet)) (later .at))
 
 abbrev μ-loop : tie.MeasureT-loop
-μ-loop source sheet reached₀ buffer₀ later₀ reached buffer later = left (later .taking) (length (fileOf 44100 sheet) - later .at)
+μ-loop mode source sheet reached₀ buffer₀ later₀ reached buffer later = left (later .taking) (length (fileOf 44100 sheet) - later .at)
 
 -- ---- a turn, once the piece is there
 
@@ -57,9 +57,9 @@ module _ (c : tie.After-next Inv-loop μ-loop) where
   taking : out .taking ≡ true
   taking = sym (c .before .before .before .before .is-taking .ensures) ∙ c .before .before .before .if1 .taken
 
-  next-piece : Next (answerOf (from .args .source .now)) (out .at) (take (c .next .result) (c .next .last .1 .0))
+  next-piece : Next (answerOf (from .args .mode) (from .args .source .now)) (out .at) (take (c .next .result) (c .next .last .1 .0))
   next-piece =
-      file-next (answerOf (from .args .source .now)) file _ (out .at) (c .next .result) (from .pre .1 .0)
+      file-next (answerOf (from .args .mode) (from .args .source .now)) file _ (out .at) (c .next .result) (from .pre .1 .0)
       (piece-bytes sheet (from .pre .1 .1) (head .loop .buffer) (head .loop .inv .0) (out .at)
       (c .next .result) (c .next .last .1 .0) count
       (c .next .ensures .1 .1 ∙ ap (nextIn 44100 sheet (head .loop .buffer)) (c .before .place .ensures))

@@ -13,19 +13,19 @@ use Rattle.blocks.proofs.block.read_block.Statement.{statement}
 use Rattle.blocks.proofs.block.read_block.Tie as tie
 
 abbrev Inv-loop : tie.InvT-loop
-Inv-loop source at numbers₀ shape₀ place₀ count₀ before₀ numbers shape place count before = Reading source at numbers₀ shape₀ numbers shape place count before
+Inv-loop source at numbers₀ shape₀ mode place₀ count₀ before₀ numbers shape place count before = Reading mode source at numbers₀ shape₀ numbers shape place count before
 
 abbrev μ-loop : tie.MeasureT-loop
-μ-loop source at numbers₀ shape₀ place₀ count₀ before₀ numbers shape place count before = length source - place
+μ-loop source at numbers₀ shape₀ mode place₀ count₀ before₀ numbers shape place count before = length source - place
 
 returns : tie.Need-returns Inv-loop μ-loop
-returns c = narrow-numbers _ _ _ _ (c .if1 .taken)
+returns c = narrow-numbers _ _ _ _ _ (c .if1 .taken)
 
 returns-2 : tie.Need-returns-2 Inv-loop μ-loop
-returns-2 c = narrow-shape _ _ _ _ (c .before .if1 .left) (c .if2 .taken)
+returns-2 c = narrow-shape _ _ _ _ _ (c .before .if1 .left) (c .if2 .taken)
 
 loop-holds : tie.Need-loop-holds Inv-loop μ-loop
-loop-holds c = reading-start _ _ _ _ (c .before .if1 .left) (c .if2 .left)
+loop-holds c = reading-start _ _ _ _ _ (c .before .if1 .left) (c .if2 .left)
 
 same-length : tie.Need-same-length Inv-loop μ-loop
 same-length c = c .before .loop .inv .floats
@@ -34,7 +34,7 @@ same-length-2 : tie.Need-same-length-2 Inv-loop μ-loop
 same-length-2 c = c .before .loop .inv .shapes
 
 returns-3 : tie.Need-returns-3 Inv-loop μ-loop
-returns-3 c = answered-end _ _ _ _ _ _ _ _ _ (c .before .loop .inv) (c .if3 .taken)
+returns-3 c = answered-end _ _ _ _ _ _ _ _ _ _ (c .before .loop .inv) (c .if3 .taken)
 
 line-at-requires : tie.Need-line-at-requires Inv-loop μ-loop
 line-at-requires c κs = search needs
@@ -63,7 +63,7 @@ same-length-4 : tie.Need-same-length-4 Inv-loop μ-loop
 same-length-4 c = c .before .before .before .before .before .loop .inv .shapes
 
 returns-4 : tie.Need-returns-4 Inv-loop μ-loop
-returns-4 c = answered-other _ _ _ _ _ _ _ _ _ (c .before .before .before .before .before .loop .inv) _ _ (lined (c .before .before .before)) (sym (c .before .is-end .ensures) ∙ c .if4 .taken)
+returns-4 c = answered-other _ _ _ _ _ _ _ _ _ _ (c .before .before .before .before .before .loop .inv) _ _ (lined (c .before .before .before)) (sym (c .before .is-end .ensures) ∙ c .if4 .taken)
 
 operator-requires : tie.Need-operator-requires Inv-loop μ-loop
 operator-requires c κs = search needs
@@ -86,7 +86,7 @@ returns-5 : tie.Need-returns-5 Inv-loop μ-loop
 unfolding outcomeOf
 returns-5 c =
     let s = c .before .before .before .before in
-    answered-refused _ _ _ _ _ _ _ _ _ (s .before .before .before .before .before .loop .inv) _ _ (lined (s .before .before .before)) (runs s) _
+    answered-refused _ _ _ _ _ _ _ _ _ _ (s .before .before .before .before .before .loop .inv) _ _ (lined (s .before .before .before)) (runs s) _
     (λ line. sym (ap (outcomeOf line) (c .before .read .given .1)) ∙ c .before .before .before .operator .ensures line)
 
 enum-known-read-2 : tie.Need-enum-known-read-2 Inv-loop μ-loop
@@ -97,7 +97,7 @@ unfolding outcomeOf
 put-requires c κs =
     let s = c .before .before .before .before .before .before in
     let r = s .before .before .before .before .before .loop .inv in (
-      line-room _ _ _ _ _ _ _ _ _ r _ _ (lined (s .before .before .before)) (runs s) _ _
+      line-room _ _ _ _ _ _ _ _ _ _ r _ _ (lined (s .before .before .before)) (runs s) _ _
           (λ line. sym (ap (outcomeOf line) (c .before .before .before .read2 .given .1)) ∙ c .before .before .before .before .before .operator .ensures line),
       (omega (arith, r .wide, r .floats), omega (arith, r .high, r .shapes)),
     )
@@ -113,7 +113,7 @@ unfolding outcomeOf
 loop-again c =
     let s = c .before .before .before .before .before .before .before .before .before .before .before in
     let p = c .before .before .before .before .put in
-    reading-more _ _ _ _ _ _ _ _ _ (s .before .before .before .before .before .loop .inv) _ _ (lined (s .before .before .before)) (runs s) _ _
+    reading-more _ _ _ _ _ _ _ _ _ _ (s .before .before .before .before .before .loop .inv) _ _ (lined (s .before .before .before)) (runs s) _ _
     (λ line. sym (ap (outcomeOf line) (c .before .before .before .before .before .before .before .before .read2 .given .1)) ∙ c .before .before .before .before .before .before .before .before .before .before .operator .ensures line) _ _ (p .kept .0) (p .kept .1 .0) (p .ensures)
 
 pub read-block-spec : {M : Type 1} → statement M

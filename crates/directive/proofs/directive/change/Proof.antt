@@ -17,7 +17,7 @@ tempo-requires c κs = search needs
 
 returns : tie.Need-returns
 unfolding bytes
-returns c line = c .tempo .ensures line ∙ tempo-named _ _ line (sym (c .before .before .same-text .ensures) ∙ c .before .if1 .taken)
+returns c line = c .tempo .ensures line ∙ tempo-named _ _ _ line (sym (c .before .before .same-text .ensures) ∙ c .before .if1 .taken)
 
 slice-aggregate-same-text-2 : tie.Need-slice-aggregate-same-text-2
 slice-aggregate-same-text-2 c = search needs
@@ -32,7 +32,7 @@ returns-2 : tie.Need-returns-2
 unfolding bytes
 returns-2 c line =
     c .denominator .ensures line
-    ∙ denominator-named _ _ line
+    ∙ denominator-named _ _ _ line
     (sym (c .before .before .before .before .before .same-text .ensures) ∙ c .before .before .before .before .if1 .left)
     (sym (c .before .before .same-text2 .ensures) ∙ c .before .if2 .taken)
 
@@ -49,7 +49,7 @@ returns-3 : tie.Need-returns-3
 unfolding bytes
 returns-3 c line =
     c .key .ensures line
-    ∙ key-named _ _ line
+    ∙ key-named _ _ _ line
     (sym (c .before .before .before .before .before .before .before .before .same-text .ensures) ∙ c .before .before .before .before .before .before .before .if1 .left)
     (sym (c .before .before .before .before .before .same-text2 .ensures) ∙ c .before .before .before .before .if2 .left)
     (sym (c .before .before .same-text3 .ensures) ∙ c .before .if3 .taken)
@@ -57,7 +57,7 @@ returns-3 c line =
 returns-4 : tie.Need-returns-4
 unfolding bytes
 returns-4 c line =
-    unnamed _ _ line
+    unnamed _ _ _ line
     (sym (c .before .before .before .before .before .before .before .same-text .ensures) ∙ c .before .before .before .before .before .before .if1 .left)
     (sym (c .before .before .before .before .same-text2 .ensures) ∙ c .before .before .before .if2 .left)
     (sym (c .before .same-text3 .ensures) ∙ c .if3 .left)

@@ -10,7 +10,7 @@ name-at-requires : tie.Need-name-at-requires
 name-at-requires c κs = search needs
 
 returns : tie.Need-returns
-returns c = under-two _ _ (c .before .name-at .ensures) (not-true _ (c .if1 .taken))
+returns c = under-two _ _ (c .before .name-at .ensures) (not-true _ (c .if1 .taken)) _
 
 sub-name : tie.Need-sub-name
 sub-name c = place-within _ _ (c .before .name-at .ensures) .0
@@ -44,7 +44,7 @@ returns-2 c line =
     c .change .ensures line
     ∙ two-tokens _ _ (c .before .before .before .before .before .before .name-at .ensures) _ _
     (c .before .before .before .blanks-end .ensures) (c .before .before .ink-end .ensures)
-    (not-false _ (c .before .before .before .before .before .if1 .left)) line
+    (not-false _ (c .before .before .before .before .before .if1 .left)) _ line
 
 pub read-directive-spec : {M : Type 1} → statement M
 read-directive-spec =

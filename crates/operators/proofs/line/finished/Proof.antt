@@ -17,7 +17,7 @@ enum-known-f c = search needs
 returns : tie.Need-returns
 unfolding outcomeOf feedbackOutcome operatorOf
 returns c line =
-    finished-refused _ _ _ _ _ _ (sym (c .before .before .before .feedback-at .ensures line) ∙ ap (feedbackOutcome line) (c .before .f .given .1))
+    finished-refused _ _ _ _ _ _ _ (sym (c .before .before .before .feedback-at .ensures line) ∙ ap (feedbackOutcome line) (c .before .f .given .1))
 
 enum-known-f-2 : tie.Need-enum-known-f-2
 enum-known-f-2 c = search needs
@@ -25,12 +25,12 @@ enum-known-f-2 c = search needs
 returns-2 : tie.Need-returns-2
 unfolding outcomeOf feedbackOutcome operatorOf
 returns-2 c line =
-    finished-full _ _ _ _ _ _ (sym (c .before .before .before .before .feedback-at .ensures line) ∙ ap (feedbackOutcome line) (c .before .before .f2 .given .1)) (c .if1 .taken)
+    finished-full _ _ _ _ _ _ _ (sym (c .before .before .before .before .feedback-at .ensures line) ∙ ap (feedbackOutcome line) (c .before .before .f2 .given .1)) (c .if1 .taken)
 
 returns-3 : tie.Need-returns-3
 unfolding outcomeOf feedbackOutcome operatorOf
 returns-3 c line =
-    finished-read _ _ _ _ _ _ (sym (c .before .before .before .before .feedback-at .ensures line) ∙ ap (feedbackOutcome line) (c .before .before .f2 .given .1)) (c .if1 .left)
+    finished-read _ _ _ _ _ _ _ (sym (c .before .before .before .before .feedback-at .ensures line) ∙ ap (feedbackOutcome line) (c .before .before .f2 .given .1)) (c .if1 .left)
 
 pub finished-spec : {M : Type 1} → statement M
 finished-spec =

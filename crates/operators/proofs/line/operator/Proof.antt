@@ -32,7 +32,7 @@ level c = refusal (c .before) ∙ omega arith
 
 returns : tie.Need-returns
 unfolding outcomeOf
-returns c line = line-indented _ _ _ _ _ (refusal (c .before)) (c .if1 .taken)
+returns c line = line-indented _ _ _ _ _ _ (refusal (c .before)) (c .if1 .taken)
 
 tokens-requires : tie.Need-tokens-requires
 tokens-requires c κs = search needs
@@ -41,13 +41,13 @@ returns-2 : tie.Need-returns-2
 unfolding outcomeOf
 returns-2 c line =
     let n = c .before .tokens .ensures in
-    line-counted _ _ _ _ (level (c .before .before)) (λ (e : _). omega arith) (λ (e : _). omega arith)
+    line-counted _ _ _ _ _ (level (c .before .before)) (λ (e : _). omega arith) (λ (e : _). omega arith)
 
 returns-3 : tie.Need-returns-3
 unfolding outcomeOf
 returns-3 c line =
     let n = c .before .before .tokens .ensures in
-    line-counted _ _ _ _ (level (c .before .before .before)) (λ (e : _). omega arith) (λ (e : _). omega arith)
+    line-counted _ _ _ _ _ (level (c .before .before .before)) (λ (e : _). omega arith) (λ (e : _). omega arith)
 
 six-numbers-requires : tie.Need-six-numbers-requires
 six-numbers-requires c κs = search needs
@@ -58,8 +58,8 @@ enum-known-read c = search needs
 returns-4 : tie.Need-returns-4
 unfolding outcomeOf
 returns-4 c line =
-    line-stopped _ _ _ _ (level (c .before .before .before .before .before .before .before)) (omega arith) (omega arith) _
-    (subst (Sixfold (c .before .before .before .before .before .before .before .before .before .before .before .args .text .now)) (c .before .read .given .1) (c .before .before .before .six-numbers .ensures))
+    line-stopped _ _ _ _ _ (level (c .before .before .before .before .before .before .before)) (omega arith) (omega arith) _
+    (subst (Sixfold _ (c .before .before .before .before .before .before .before .before .before .before .before .args .text .now)) (c .before .read .given .1) (c .before .before .before .six-numbers .ensures))
 
 enum-known-read-2 : tie.Need-enum-known-read-2
 enum-known-read-2 c = search needs
@@ -72,9 +72,9 @@ unfolding outcomeOf
 returns-5 c line =
     let a = c .before .before .before .before .before .before .before .before .before .before .before .before .args in
     c .finished .ensures line
-    ∙ ap (λ (n : ℕ). finishedRead line n (a .above) (c .before .before .read2 .given .0 .0) (tokensOf (drop (c .before .before .read2 .given .0 .1 .0) (a .text .now)))) (c .before .before .before .before .before .before .before .before .before .before .indent .ensures)
-    ∙ line-passed _ _ _ _ (level (c .before .before .before .before .before .before .before .before)) (omega arith) (omega arith) _ _
-    (subst (Sixfold (a .text .now)) (c .before .before .read2 .given .1) (c .before .before .before .before .six-numbers .ensures))
+    ∙ ap (λ (n : ℕ). finishedRead (a .mode) line n (a .above) (c .before .before .read2 .given .0 .0) (tokensOf (drop (c .before .before .read2 .given .0 .1 .0) (a .text .now)))) (c .before .before .before .before .before .before .before .before .before .before .indent .ensures)
+    ∙ line-passed _ _ _ _ _ (level (c .before .before .before .before .before .before .before .before)) (omega arith) (omega arith) _ _
+    (subst (Sixfold _ (a .text .now)) (c .before .before .read2 .given .1) (c .before .before .before .before .six-numbers .ensures))
 
 pub operator-spec : {M : Type 1} → statement M
 operator-spec =

@@ -40,7 +40,7 @@ returns : tie.Need-returns
 returns c places fs is ls bs w g =
     let s = c .before .before .before .before .before .before .before .before .before .before in
     goes-as _ _ (s .args .source .now) places (s .args .r) (c .refused .result) (refusedAt (s .args .r) (c .before .before .before .before .header-line .result) (s .args .r .line)) fs is ls _ (c .refused .ensures)
-    (column-refuses (s .args .source .now) places (s .args .r) fs is ls bs (s .args .numbers .now) (s .args .shape .now) (s .args .end) (s .args .next) (c .before .before .before .before .header-line .result) (s .pre .0) w g (c .before .before .before .before .header-line .ensures .0 (s .args .r .line)) _ (c .before .if1 .taken))
+    (column-refuses (s .args .mode) (s .args .source .now) places (s .args .r) fs is ls bs (s .args .numbers .now) (s .args .shape .now) (s .args .end) (s .args .next) (c .before .before .before .before .header-line .result) (s .pre .0) w g (c .before .before .before .before .header-line .ensures .0 (s .args .r .line)) _ (c .before .if1 .taken))
 
 kept-requires : tie.Need-kept-requires
 kept-requires c κs =
@@ -76,7 +76,7 @@ returns-2 c places fs is ls bs w g =
     let h = k .before .before .before .before .before .before in
     let s = h .before .before .before .before .before .before in
     goes-as _ _ (s .args .source .now) places (s .args .r) (c .refused2 .result) (refusedAt (s .args .r) (k .kept .result .refusal) (s .args .r .line + 1 + k .kept .result .count)) fs is ls _ (c .refused2 .ensures)
-    (column-block-refuses (s .args .source .now) places (s .args .r) fs is ls bs (s .args .numbers .now) (s .args .shape .now) (s .args .end) (s .args .next) (h .header-line .result) (s .pre .0) w g (h .header-line .ensures .0 (s .args .r .line)) (k .before .before .before .if1 .left)
+    (column-block-refuses (s .args .mode) (s .args .source .now) places (s .args .r) fs is ls bs (s .args .numbers .now) (s .args .shape .now) (s .args .end) (s .args .next) (h .header-line .result) (s .pre .0) w g (h .header-line .ensures .0 (s .args .r .line)) (k .before .before .before .if1 .left)
     (h .header-line .last .1 .1 .1 .0) (h .header-line .kept .1 .1 .1 .0) (k .kept .result) (k .kept .last .1 .1 .0) (k .kept .last .1 .1 .1 .0) (k .kept .ensures) _ (c .before .if2 .taken))
 
 same-length-4 : tie.Need-same-length-4
@@ -94,7 +94,7 @@ returns-3 c places fs is ls bs w g =
     let k = c .before .before .before .before .before .before .before .before in
     let h = k .before .before .before .before .before .before in
     let s = h .before .before .before .before .before .before in
-    column-goes (s .args .source .now) places (s .args .r) fs is ls bs (s .args .numbers .now) (s .args .shape .now) (s .args .end) (s .args .next) (h .header-line .result) (s .pre .0) w g (h .header-line .ensures .0 (s .args .r .line)) (k .before .before .before .if1 .left)
+    column-goes (s .args .mode) (s .args .source .now) places (s .args .r) fs is ls bs (s .args .numbers .now) (s .args .shape .now) (s .args .end) (s .args .next) (h .header-line .result) (s .pre .0) w g (h .header-line .ensures .0 (s .args .r .line)) (k .before .before .before .if1 .left)
     (h .header-line .last .1 .1 .1 .0) (h .header-line .kept .1 .1 .1 .0) (k .kept .result) (k .kept .last .1 .1 .0) (k .kept .last .1 .1 .1 .0) (k .kept .ensures) (c .if2 .left) (k .kept .kept .1 .1 .0)
     (k .kept .kept .1 .1 .1 .0 ∙ names-back (s .args .shape .now) (s .pre .1 .1 .1) (h .header-line .last .1 .1 .1 .0) (h .header-line .kept .1 .1 .1 .0)) (h .header-line .ensures .1 (s .args .r .line))
 

@@ -17,7 +17,7 @@ same-length-2 c = c .before .before .before .before .before .before .block-at .k
 returns : tie.Need-returns
 returns c =
     let b = c .before .before .before .before .before .before in
-    kept-refused _ _ _ _ _ _ _ _ (b .block-at .ensures .0) (b .block-at .ensures .1) (c .if1 .taken)
+    kept-refused _ _ _ _ _ _ _ _ _ (b .block-at .ensures .0) (b .block-at .ensures .1) (c .if1 .taken)
 
 release-at-requires : tie.Need-release-at-requires
 release-at-requires c κs = search needs
@@ -49,7 +49,7 @@ same-length-4 c = search needs
 returns-2 : tie.Need-returns-2
 returns-2 c =
     let b = c .before .before .before .before .before .before .before .before .before in
-    kept-stored _ _ _ _ _ _ _ _ (b .block-at .ensures .0) (b .block-at .ensures .1) (b .before .before .before .before .before .before .pre .0) _ (c .release-at .ensures)
+    kept-stored _ _ _ _ _ _ _ _ _ (b .block-at .ensures .0) (b .block-at .ensures .1) (b .before .before .before .before .before .before .pre .0) _ (c .release-at .ensures)
 
 pub kept-spec : {M : Type 1} → statement M
 kept-spec =

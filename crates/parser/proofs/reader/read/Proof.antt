@@ -10,7 +10,7 @@ refused-reading-requires : tie.Need-refused-reading-requires
 refused-reading-requires c κs = search needs
 
 returns : tie.Need-returns
-returns c = c .refused-reading .ensures ∙ source-long 44100 _ (c .before .if1 .taken)
+returns c = c .refused-reading .ensures ∙ source-long _ 44100 _ (c .before .if1 .taken)
 
 all-below-128-requires : tie.Need-all-below-128-requires
 all-below-128-requires c κs = search needs
@@ -19,13 +19,13 @@ refused-reading-requires-2 : tie.Need-refused-reading-requires-2
 refused-reading-requires-2 c κs = search needs
 
 returns-2 : tie.Need-returns-2
-returns-2 c = c .refused-reading2 .ensures ∙ source-high 44100 _ (c .before .before .before .if1 .left) (sym (c .before .before .all-below-128 .ensures) ∙ not-true _ (c .before .if2 .taken))
+returns-2 c = c .refused-reading2 .ensures ∙ source-high _ 44100 _ (c .before .before .before .if1 .left) (sym (c .before .before .all-below-128 .ensures) ∙ not-true _ (c .before .if2 .taken))
 
 read-lines-requires : tie.Need-read-lines-requires
 read-lines-requires c κs = search needs
 
 returns-3 : tie.Need-returns-3
-returns-3 c = c .read-lines .ensures ∙ source-read 44100 _ (c .before .before .before .if1 .left) (sym (c .before .before .all-below-128 .ensures) ∙ not-false _ (c .before .if2 .left))
+returns-3 c = c .read-lines .ensures ∙ source-read _ 44100 _ (c .before .before .before .if1 .left) (sym (c .before .before .all-below-128 .ensures) ∙ not-false _ (c .before .if2 .left))
 
 pub read-spec : {M : Type 1} → statement M
 read-spec =

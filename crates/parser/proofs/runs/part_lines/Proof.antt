@@ -10,6 +10,8 @@ use borrow.Author.Needs.{needs, scaled-fits}
 use mir.Syntax.{w64}
 use mir.Val.{Fits}
 use Rattle.tables.proofs.MacroLines.{name-ends}
+use Rattle.strict.specs.declared.mode.Mode.{Mode}
+use Rattle.strict.specs.declared.mode.Mode.the-variants.{Plain}
 use Rattle.parser.specs.Columns.{placeColumn, tablesIn}
 use Rattle.parser.specs.Walks.{restRead, Walking}
 use Rattle.parser.proofs.Going.{lined, line-small}
@@ -43,7 +45,7 @@ refused-21 z = omega (arith, z)
 
 abbrev Inv-loop : tie.InvT-loop
 Inv-loop source bodies numbers shape floats₀ bytes₀ loops₀ rate r₀ floats bytes loops r =
-    Walking rate source (restRead rate source (placeColumn loops₀) r₀ floats₀ bytes₀ loops₀ (tablesIn bodies numbers shape)) (placeColumn loops) r floats bytes loops (tablesIn bodies numbers shape) × (r₀ .at ≤ r .at)
+    ((mode : Mode) → Walking mode rate source (restRead mode rate source (placeColumn loops₀) r₀ floats₀ bytes₀ loops₀ (tablesIn bodies numbers shape)) (placeColumn loops) r floats bytes loops (tablesIn bodies numbers shape)) × (r₀ .at ≤ r .at)
 
 abbrev μ-loop : tie.MeasureT-loop
 μ-loop source bodies numbers shape floats₀ bytes₀ loops₀ rate r₀ floats bytes loops r = length source - r .at
@@ -59,47 +61,47 @@ part-of-requires c κs =
     let l = c .before .before .before .loop in
     let s = c .before .before .before .before .before .before .before .before .before .before .before in
     let a = s .args in
-    let w = l .inv .0 in
-    let b = walking-begins _ _ _ _ _ _ _ _ _ w _ (c .before .line-at .ensures) (c .before .before .loop-test .taken) (s .pre .0) in
+    let w = l .inv .0 Plain in
+    let b = walking-begins _ _ _ _ _ _ _ _ _ _ w _ (c .before .line-at .ensures) (c .before .before .loop-test .taken) (s .pre .0) in
     let n = lined _ _ _ _ b in
     (n .from, (n .within, (w .fits .few, w .fits .loops-length)))
 
 same-length : tie.Need-same-length Inv-loop μ-loop
-same-length c = c .before .before .before .before .before .before .loop .inv .0 .fits .floats-length ∙ sym (c .before .before .before .before .before .before .before .before .before .before .before .before .before .before .pre .1 .fits .floats-length)
+same-length c = c .before .before .before .before .before .before .loop .inv .0 Plain .fits .floats-length ∙ sym (c .before .before .before .before .before .before .before .before .before .before .before .before .before .before .pre .1 Plain .fits .floats-length)
 
 same-length-2 : tie.Need-same-length-2 Inv-loop μ-loop
-same-length-2 c = c .before .before .before .before .before .before .loop .inv .0 .fits .bytes-length ∙ sym (c .before .before .before .before .before .before .before .before .before .before .before .before .before .before .pre .1 .fits .bytes-length)
+same-length-2 c = c .before .before .before .before .before .before .loop .inv .0 Plain .fits .bytes-length ∙ sym (c .before .before .before .before .before .before .before .before .before .before .before .before .before .before .pre .1 Plain .fits .bytes-length)
 
 same-length-3 : tie.Need-same-length-3 Inv-loop μ-loop
-same-length-3 c = c .before .before .before .before .before .before .loop .inv .0 .fits .loops-length ∙ sym (c .before .before .before .before .before .before .before .before .before .before .before .before .before .before .pre .1 .fits .loops-length)
+same-length-3 c = c .before .before .before .before .before .before .loop .inv .0 Plain .fits .loops-length ∙ sym (c .before .before .before .before .before .before .before .before .before .before .before .before .before .before .pre .1 Plain .fits .loops-length)
 
 returns : tie.Need-returns Inv-loop μ-loop
 returns c =
     let l = c .before .before .before .before .before .before .loop in
-    run-stops _ _ _ _ _ _ _ _ (l .inv .0) _ (l .inv .1) (c .before .before .before .before .line-at .result) (c .before .before .before .before .line-at .ensures) (c .before .before .part-of .ensures .bare (not-true _ (c .if1 .taken)))
+    λ mode. run-stops _ _ _ _ _ _ _ _ _ (l .inv .0 mode) _ (l .inv .1) (c .before .before .before .before .line-at .result) (c .before .before .before .before .line-at .ensures) (c .before .before .part-of .ensures .bare (not-true _ (c .if1 .taken)))
 
 same-length-4 : tie.Need-same-length-4 Inv-loop μ-loop
-same-length-4 c = c .before .before .before .before .before .before .before .loop .inv .0 .fits .floats-length ∙ sym (c .before .before .before .before .before .before .before .before .before .before .before .before .before .before .before .pre .1 .fits .floats-length)
+same-length-4 c = c .before .before .before .before .before .before .before .loop .inv .0 Plain .fits .floats-length ∙ sym (c .before .before .before .before .before .before .before .before .before .before .before .before .before .before .before .pre .1 Plain .fits .floats-length)
 
 same-length-5 : tie.Need-same-length-5 Inv-loop μ-loop
-same-length-5 c = c .before .before .before .before .before .before .before .loop .inv .0 .fits .bytes-length ∙ sym (c .before .before .before .before .before .before .before .before .before .before .before .before .before .before .before .pre .1 .fits .bytes-length)
+same-length-5 c = c .before .before .before .before .before .before .before .loop .inv .0 Plain .fits .bytes-length ∙ sym (c .before .before .before .before .before .before .before .before .before .before .before .before .before .before .before .pre .1 Plain .fits .bytes-length)
 
 same-length-6 : tie.Need-same-length-6 Inv-loop μ-loop
-same-length-6 c = c .before .before .before .before .before .before .before .loop .inv .0 .fits .loops-length ∙ sym (c .before .before .before .before .before .before .before .before .before .before .before .before .before .before .before .pre .1 .fits .loops-length)
+same-length-6 c = c .before .before .before .before .before .before .before .loop .inv .0 Plain .fits .loops-length ∙ sym (c .before .before .before .before .before .before .before .before .before .before .before .before .before .before .before .pre .1 Plain .fits .loops-length)
 
 returns-2 : tie.Need-returns-2 Inv-loop μ-loop
 returns-2 c =
     let l = c .before .before .before .before .before .before .before .loop in
     let s = c .before .before .before .before .before .before .before .before .before .before .before .before .before .before .before in
     let a = s .args in
-    let w = l .inv .0 in
-    let b = walking-begins _ _ _ _ _ _ _ _ _ w _ (c .before .before .before .before .before .line-at .ensures) (c .before .before .before .before .before .before .loop-test .taken) (s .pre .0) in
+    let w = l .inv .0 Plain in
+    let b = walking-begins _ _ _ _ _ _ _ _ _ _ w _ (c .before .before .before .before .before .line-at .ensures) (c .before .before .before .before .before .before .loop-test .taken) (s .pre .0) in
     let p = c .before .before .before .part-of in
     let n = c .before .before .before .before .before .line-at .result in
-    run-refuses _ _ _ _ _ _ _ _ w _ _ _ b _ _ _ _ _ (full-walked (a .rate) (a .source .now) (a .bodies .now) (a .numbers .now) (a .shape .now) (l .r) (l .floats) (l .bytes) (l .loops) (n .end) (n .next) b (w .fits) (w .tabled) (p .result) (p .ensures) (not-false _ (c .before .if1 .left)) (c .if2 .taken) _ refl) (λ z. refused-21 z)
+    λ mode. run-refuses _ _ _ _ _ _ _ _ _ (l .inv .0 mode) _ _ _ b _ _ _ _ _ (full-walked (a .rate) (a .source .now) (a .bodies .now) (a .numbers .now) (a .shape .now) (l .r) (l .floats) (l .bytes) (l .loops) (n .end) (n .next) b (w .fits) (w .tabled) (p .result) (p .ensures) (not-false _ (c .before .if1 .left)) (c .if2 .taken) _ refl mode) (λ z. refused-21 z)
 
 named-requires : tie.Need-named-requires Inv-loop μ-loop
-named-requires c κs = (c .before .if2 .left, c .before .before .before .before .before .before .before .before .loop .inv .0 .fits .loops-length)
+named-requires c κs = (c .before .if2 .left, c .before .before .before .before .before .before .before .before .loop .inv .0 Plain .fits .loops-length)
 
 mul-env : tie.Need-mul-env Inv-loop μ-loop
 mul-env c = scaled-fits _ 16 _ (c .before .before .before .before .if2 .left) (lit< tt)
@@ -124,8 +126,8 @@ state-of-requires c κs =
     let l = c .before .before .before .before .before .before .before .before .before .before .before .before .before .before .before .loop in
     let s = c .before .before .before .before .before .before .before .before .before .before .before .before .before .before .before .before .before .before .before .before .before .before .before in
     let a = s .args in
-    let w = l .inv .0 in
-    let b = walking-begins _ _ _ _ _ _ _ _ _ w _ (c .before .before .before .before .before .before .before .before .before .before .before .before .before .line-at .ensures) (c .before .before .before .before .before .before .before .before .before .before .before .before .before .before .loop-test .taken) (s .pre .0) in
+    let w = l .inv .0 Plain in
+    let b = walking-begins _ _ _ _ _ _ _ _ _ _ w _ (c .before .before .before .before .before .before .before .before .before .before .before .before .before .line-at .ensures) (c .before .before .before .before .before .before .before .before .before .before .before .before .before .before .loop-test .taken) (s .pre .0) in
     let p = c .before .before .before .before .before .before .before .before .before .before .before .part-of in
     let n = c .before .before .before .before .before .before .before .before .before .before .before .before .before .line-at .result in
     part-there (a .rate) (a .source .now) (a .bodies .now) (a .numbers .now) (a .shape .now) (l .r) (l .floats) (l .bytes) (l .loops) (n .end) (n .next) b (w .fits) (w .tabled) (p .result) (p .ensures) (not-false _ (c .before .before .before .before .before .before .before .before .before .if1 .left)) (c .before .before .before .before .before .before .before .before .if2 .left) (c .before .before .before .before .before .before .named .last .0) (c .before .before .before .before .before .before .named .ensures) (c .before .before .before .before .before .before .named .kept .0) .1 .1 .1 .1 .1
@@ -135,8 +137,8 @@ sub-played c =
     let l = c .before .before .before .before .before .before .before .before .before .before .before .before .before .before .before .before .loop in
     let s = c .before .before .before .before .before .before .before .before .before .before .before .before .before .before .before .before .before .before .before .before .before .before .before .before in
     let a = s .args in
-    let w = l .inv .0 in
-    let b = walking-begins _ _ _ _ _ _ _ _ _ w _ (c .before .before .before .before .before .before .before .before .before .before .before .before .before .before .line-at .ensures) (c .before .before .before .before .before .before .before .before .before .before .before .before .before .before .before .loop-test .taken) (s .pre .0) in
+    let w = l .inv .0 Plain in
+    let b = walking-begins _ _ _ _ _ _ _ _ _ _ w _ (c .before .before .before .before .before .before .before .before .before .before .before .before .before .before .line-at .ensures) (c .before .before .before .before .before .before .before .before .before .before .before .before .before .before .before .loop-test .taken) (s .pre .0) in
     let p = c .before .before .before .before .before .before .before .before .before .before .before .before .part-of in
     let n = c .before .before .before .before .before .before .before .before .before .before .before .before .before .before .line-at .result in
     let e = p .ensures .ends (not-false _ (c .before .before .before .before .before .before .before .before .before .before .if1 .left)) in
@@ -148,8 +150,8 @@ part-played-start c =
     let l = c .before .before .before .before .before .before .before .before .before .before .before .before .before .before .before .before .loop in
     let s = c .before .before .before .before .before .before .before .before .before .before .before .before .before .before .before .before .before .before .before .before .before .before .before .before in
     let a = s .args in
-    let w = l .inv .0 in
-    let b = walking-begins _ _ _ _ _ _ _ _ _ w _ (c .before .before .before .before .before .before .before .before .before .before .before .before .before .before .line-at .ensures) (c .before .before .before .before .before .before .before .before .before .before .before .before .before .before .before .loop-test .taken) (s .pre .0) in
+    let w = l .inv .0 Plain in
+    let b = walking-begins _ _ _ _ _ _ _ _ _ _ w _ (c .before .before .before .before .before .before .before .before .before .before .before .before .before .before .line-at .ensures) (c .before .before .before .before .before .before .before .before .before .before .before .before .before .before .before .loop-test .taken) (s .pre .0) in
     let p = c .before .before .before .before .before .before .before .before .before .before .before .before .part-of in
     let n = c .before .before .before .before .before .before .before .before .before .before .before .before .before .before .line-at .result in
     let e = p .ensures .ends (not-false _ (c .before .before .before .before .before .before .before .before .before .before .if1 .left)) in
@@ -161,8 +163,8 @@ part-played-end c =
     let l = c .before .before .before .before .before .before .before .before .before .before .before .before .before .before .before .before .loop in
     let s = c .before .before .before .before .before .before .before .before .before .before .before .before .before .before .before .before .before .before .before .before .before .before .before .before in
     let a = s .args in
-    let w = l .inv .0 in
-    let b = walking-begins _ _ _ _ _ _ _ _ _ w _ (c .before .before .before .before .before .before .before .before .before .before .before .before .before .before .line-at .ensures) (c .before .before .before .before .before .before .before .before .before .before .before .before .before .before .before .loop-test .taken) (s .pre .0) in
+    let w = l .inv .0 Plain in
+    let b = walking-begins _ _ _ _ _ _ _ _ _ _ w _ (c .before .before .before .before .before .before .before .before .before .before .before .before .before .before .line-at .ensures) (c .before .before .before .before .before .before .before .before .before .before .before .before .before .before .before .loop-test .taken) (s .pre .0) in
     lined _ _ _ _ b .within
 
 played-requires : tie.Need-played-requires Inv-loop μ-loop
@@ -170,8 +172,8 @@ played-requires c κs =
     let l = c .before .before .before .before .before .before .before .before .before .before .before .before .before .before .before .before .before .before .before .before .loop in
     let s = c .before .before .before .before .before .before .before .before .before .before .before .before .before .before .before .before .before .before .before .before .before .before .before .before .before .before .before .before in
     let a = s .args in
-    let w = l .inv .0 in
-    let b = walking-begins _ _ _ _ _ _ _ _ _ w _ (c .before .before .before .before .before .before .before .before .before .before .before .before .before .before .before .before .before .before .line-at .ensures) (c .before .before .before .before .before .before .before .before .before .before .before .before .before .before .before .before .before .before .before .loop-test .taken) (s .pre .0) in
+    let w = l .inv .0 Plain in
+    let b = walking-begins _ _ _ _ _ _ _ _ _ _ w _ (c .before .before .before .before .before .before .before .before .before .before .before .before .before .before .before .before .before .before .line-at .ensures) (c .before .before .before .before .before .before .before .before .before .before .before .before .before .before .before .before .before .before .before .loop-test .taken) (s .pre .0) in
     let p = c .before .before .before .before .before .before .before .before .before .before .before .before .before .before .before .before .part-of in
     let n = c .before .before .before .before .before .before .before .before .before .before .before .before .before .before .before .before .before .before .line-at .result in
     let t = w .tabled in
@@ -181,26 +183,26 @@ played-requires c κs =
     )
 
 same-length-7 : tie.Need-same-length-7 Inv-loop μ-loop
-same-length-7 c = c .before .before .before .before .before .before .before .before .played .kept .1 .1 .1 .1 .1 .0 ∙ c .before .before .before .before .before .before .before .before .before .before .before .before .before .before .before .before .before .before .before .before .before .before .before .before .before .before .before .before .before .loop .inv .0 .fits .floats-length ∙ sym (c .before .before .before .before .before .before .before .before .before .before .before .before .before .before .before .before .before .before .before .before .before .before .before .before .before .before .before .before .before .before .before .before .before .before .before .before .before .pre .1 .fits .floats-length)
+same-length-7 c = c .before .before .before .before .before .before .before .before .played .kept .1 .1 .1 .1 .1 .0 ∙ c .before .before .before .before .before .before .before .before .before .before .before .before .before .before .before .before .before .before .before .before .before .before .before .before .before .before .before .before .before .loop .inv .0 Plain .fits .floats-length ∙ sym (c .before .before .before .before .before .before .before .before .before .before .before .before .before .before .before .before .before .before .before .before .before .before .before .before .before .before .before .before .before .before .before .before .before .before .before .before .before .pre .1 Plain .fits .floats-length)
 
 same-length-8 : tie.Need-same-length-8 Inv-loop μ-loop
-same-length-8 c = c .before .before .before .before .before .before .before .before .played .kept .1 .1 .1 .1 .1 .1 .0 ∙ c .before .before .before .before .before .before .before .before .before .before .before .before .before .before .before .before .before .before .before .before .before .before .before .before .before .before .before .before .before .loop .inv .0 .fits .bytes-length ∙ sym (c .before .before .before .before .before .before .before .before .before .before .before .before .before .before .before .before .before .before .before .before .before .before .before .before .before .before .before .before .before .before .before .before .before .before .before .before .before .pre .1 .fits .bytes-length)
+same-length-8 c = c .before .before .before .before .before .before .before .before .played .kept .1 .1 .1 .1 .1 .1 .0 ∙ c .before .before .before .before .before .before .before .before .before .before .before .before .before .before .before .before .before .before .before .before .before .before .before .before .before .before .before .before .before .loop .inv .0 Plain .fits .bytes-length ∙ sym (c .before .before .before .before .before .before .before .before .before .before .before .before .before .before .before .before .before .before .before .before .before .before .before .before .before .before .before .before .before .before .before .before .before .before .before .before .before .pre .1 Plain .fits .bytes-length)
 
 same-length-9 : tie.Need-same-length-9 Inv-loop μ-loop
-same-length-9 c = c .before .before .before .before .before .before .before .before .played .kept .1 .1 .1 .1 .1 .1 .1 .0 ∙ c .before .before .before .before .before .before .before .before .before .before .before .before .before .before .before .before .before .before .before .before .named .kept .0 ∙ c .before .before .before .before .before .before .before .before .before .before .before .before .before .before .before .before .before .before .before .before .before .before .before .before .before .before .before .before .before .loop .inv .0 .fits .loops-length ∙ sym (c .before .before .before .before .before .before .before .before .before .before .before .before .before .before .before .before .before .before .before .before .before .before .before .before .before .before .before .before .before .before .before .before .before .before .before .before .before .pre .1 .fits .loops-length)
+same-length-9 c = c .before .before .before .before .before .before .before .before .played .kept .1 .1 .1 .1 .1 .1 .1 .0 ∙ c .before .before .before .before .before .before .before .before .before .before .before .before .before .before .before .before .before .before .before .before .named .kept .0 ∙ c .before .before .before .before .before .before .before .before .before .before .before .before .before .before .before .before .before .before .before .before .before .before .before .before .before .before .before .before .before .loop .inv .0 Plain .fits .loops-length ∙ sym (c .before .before .before .before .before .before .before .before .before .before .before .before .before .before .before .before .before .before .before .before .before .before .before .before .before .before .before .before .before .before .before .before .before .before .before .before .before .pre .1 Plain .fits .loops-length)
 
 returns-3 : tie.Need-returns-3 Inv-loop μ-loop
 returns-3 c =
     let l = c .before .before .before .before .before .before .before .before .before .before .before .before .before .before .before .before .before .before .before .before .before .before .before .before .before .before .before .before .before .loop in
     let s = c .before .before .before .before .before .before .before .before .before .before .before .before .before .before .before .before .before .before .before .before .before .before .before .before .before .before .before .before .before .before .before .before .before .before .before .before .before in
     let a = s .args in
-    let w = l .inv .0 in
-    let b = walking-begins _ _ _ _ _ _ _ _ _ w _ (c .before .before .before .before .before .before .before .before .before .before .before .before .before .before .before .before .before .before .before .before .before .before .before .before .before .before .before .line-at .ensures) (c .before .before .before .before .before .before .before .before .before .before .before .before .before .before .before .before .before .before .before .before .before .before .before .before .before .before .before .before .loop-test .taken) (s .pre .0) in
+    let w = l .inv .0 Plain in
+    let b = walking-begins _ _ _ _ _ _ _ _ _ _ w _ (c .before .before .before .before .before .before .before .before .before .before .before .before .before .before .before .before .before .before .before .before .before .before .before .before .before .before .before .line-at .ensures) (c .before .before .before .before .before .before .before .before .before .before .before .before .before .before .before .before .before .before .before .before .before .before .before .before .before .before .before .before .loop-test .taken) (s .pre .0) in
     let p = c .before .before .before .before .before .before .before .before .before .before .before .before .before .before .before .before .before .before .before .before .before .before .before .before .before .part-of in
     let n = c .before .before .before .before .before .before .before .before .before .before .before .before .before .before .before .before .before .before .before .before .before .before .before .before .before .before .before .line-at .result in
     let y = c .before .before .before .before .before .before .before .before .played in
     let m = y .last .1 .1 .1 .1 .1 in
-    run-refuses _ _ _ _ _ _ _ _ w _ _ _ b _ _ _ _ _ (refused-walked (a .rate) (a .source .now) (a .bodies .now) (a .numbers .now) (a .shape .now) (l .r) (l .floats) (l .bytes) (l .loops) (n .end) (n .next) b (w .fits) (w .tabled) (p .result) (p .ensures) (not-false _ (c .before .before .before .before .before .before .before .before .before .before .before .before .before .before .before .before .before .before .before .before .before .before .before .if1 .left)) (c .before .before .before .before .before .before .before .before .before .before .before .before .before .before .before .before .before .before .before .before .before .before .if2 .left) (c .before .before .before .before .before .before .before .before .before .before .before .before .before .before .before .before .before .before .before .before .named .last .0) (c .before .before .before .before .before .before .before .before .before .before .before .before .before .before .before .before .before .before .before .before .named .ensures) (c .before .before .before .before .before .before .before .before .before .before .before .before .before .before .before .before .before .before .before .before .named .kept .0) _ (c .before .before .before .before .before .before .before .before .before .before .before .before .before .state-of .result) (c .before .before .before .before .before .before .before .before .before .before .before .before .before .state-of .ensures) (y .result) (m .0) (m .1 .0) (m .1 .1 .0) (y .ensures .0) (y .ensures .1) (c .if3 .taken) _ refl) (c .if3 .taken)
+    λ mode. run-refuses _ _ _ _ _ _ _ _ _ (l .inv .0 mode) _ _ _ b _ _ _ _ _ (refused-walked (a .rate) (a .source .now) (a .bodies .now) (a .numbers .now) (a .shape .now) (l .r) (l .floats) (l .bytes) (l .loops) (n .end) (n .next) b (w .fits) (w .tabled) (p .result) (p .ensures) (not-false _ (c .before .before .before .before .before .before .before .before .before .before .before .before .before .before .before .before .before .before .before .before .before .before .before .if1 .left)) (c .before .before .before .before .before .before .before .before .before .before .before .before .before .before .before .before .before .before .before .before .before .before .if2 .left) (c .before .before .before .before .before .before .before .before .before .before .before .before .before .before .before .before .before .before .before .before .named .last .0) (c .before .before .before .before .before .before .before .before .before .before .before .before .before .before .before .before .before .before .before .before .named .ensures) (c .before .before .before .before .before .before .before .before .before .before .before .before .before .before .before .before .before .before .before .before .named .kept .0) _ (c .before .before .before .before .before .before .before .before .before .before .before .before .before .state-of .result) (c .before .before .before .before .before .before .before .before .before .before .before .before .before .state-of .ensures) (y .result) (m .0) (m .1 .0) (m .1 .1 .0) (y .ensures .0) (y .ensures .1) (c .if3 .taken) _ refl mode) (c .if3 .taken)
 
 mul-after : tie.Need-mul-after Inv-loop μ-loop
 mul-after c = scaled-fits _ 16 _ (c .before .before .before .before .before .before .before .before .before .before .before .before .before .before .before .before .before .before .before .before .before .before .before .if2 .left) (lit< tt)
@@ -234,8 +236,8 @@ add-r-2 c =
     let l = c .before .before .before .before .before .before .before .before .before .before .before .before .before .before .before .before .before .before .before .before .before .before .before .before .before .before .before .before .before .before .before .before .loop in
     let s = c .before .before .before .before .before .before .before .before .before .before .before .before .before .before .before .before .before .before .before .before .before .before .before .before .before .before .before .before .before .before .before .before .before .before .before .before .before .before .before .before in
     let a = s .args in
-    let w = l .inv .0 in
-    let b = walking-begins _ _ _ _ _ _ _ _ _ w _ (c .before .before .before .before .before .before .before .before .before .before .before .before .before .before .before .before .before .before .before .before .before .before .before .before .before .before .before .before .before .before .line-at .ensures) (c .before .before .before .before .before .before .before .before .before .before .before .before .before .before .before .before .before .before .before .before .before .before .before .before .before .before .before .before .before .before .before .loop-test .taken) (s .pre .0) in
+    let w = l .inv .0 Plain in
+    let b = walking-begins _ _ _ _ _ _ _ _ _ _ w _ (c .before .before .before .before .before .before .before .before .before .before .before .before .before .before .before .before .before .before .before .before .before .before .before .before .before .before .before .before .before .before .line-at .ensures) (c .before .before .before .before .before .before .before .before .before .before .before .before .before .before .before .before .before .before .before .before .before .before .before .before .before .before .before .before .before .before .before .loop-test .taken) (s .pre .0) in
     line-fits _ (line-small _ _ _ _ b)
 
 loop-less : tie.Need-loop-less Inv-loop μ-loop
@@ -243,8 +245,8 @@ loop-less c =
     let l = c .before .before .before .before .before .before .before .before .before .before .before .before .before .before .before .before .before .before .before .before .before .before .before .before .before .before .before .before .before .before .before .before .loop in
     let s = c .before .before .before .before .before .before .before .before .before .before .before .before .before .before .before .before .before .before .before .before .before .before .before .before .before .before .before .before .before .before .before .before .before .before .before .before .before .before .before .before in
     let a = s .args in
-    let w = l .inv .0 in
-    let b = walking-begins _ _ _ _ _ _ _ _ _ w _ (c .before .before .before .before .before .before .before .before .before .before .before .before .before .before .before .before .before .before .before .before .before .before .before .before .before .before .before .before .before .before .line-at .ensures) (c .before .before .before .before .before .before .before .before .before .before .before .before .before .before .before .before .before .before .before .before .before .before .before .before .before .before .before .before .before .before .before .loop-test .taken) (s .pre .0) in
+    let w = l .inv .0 Plain in
+    let b = walking-begins _ _ _ _ _ _ _ _ _ _ w _ (c .before .before .before .before .before .before .before .before .before .before .before .before .before .before .before .before .before .before .before .before .before .before .before .before .before .before .before .before .before .before .line-at .ensures) (c .before .before .before .before .before .before .before .before .before .before .before .before .before .before .before .before .before .before .before .before .before .before .before .before .before .before .before .before .before .before .before .loop-test .taken) (s .pre .0) in
     let m = lined _ _ _ _ b in
     falls _ _ _ (m .onward) (m .inside)
 
@@ -253,28 +255,28 @@ loop-again c =
     let l = c .before .before .before .before .before .before .before .before .before .before .before .before .before .before .before .before .before .before .before .before .before .before .before .before .before .before .before .before .before .before .before .before .loop in
     let s = c .before .before .before .before .before .before .before .before .before .before .before .before .before .before .before .before .before .before .before .before .before .before .before .before .before .before .before .before .before .before .before .before .before .before .before .before .before .before .before .before in
     let a = s .args in
-    let w = l .inv .0 in
-    let b = walking-begins _ _ _ _ _ _ _ _ _ w _ (c .before .before .before .before .before .before .before .before .before .before .before .before .before .before .before .before .before .before .before .before .before .before .before .before .before .before .before .before .before .before .line-at .ensures) (c .before .before .before .before .before .before .before .before .before .before .before .before .before .before .before .before .before .before .before .before .before .before .before .before .before .before .before .before .before .before .before .loop-test .taken) (s .pre .0) in
+    let w = l .inv .0 Plain in
+    let b = walking-begins _ _ _ _ _ _ _ _ _ _ w _ (c .before .before .before .before .before .before .before .before .before .before .before .before .before .before .before .before .before .before .before .before .before .before .before .before .before .before .before .before .before .before .line-at .ensures) (c .before .before .before .before .before .before .before .before .before .before .before .before .before .before .before .before .before .before .before .before .before .before .before .before .before .before .before .before .before .before .before .loop-test .taken) (s .pre .0) in
     let p = c .before .before .before .before .before .before .before .before .before .before .before .before .before .before .before .before .before .before .before .before .before .before .before .before .before .before .before .before .part-of in
     let n = c .before .before .before .before .before .before .before .before .before .before .before .before .before .before .before .before .before .before .before .before .before .before .before .before .before .before .before .before .before .before .line-at .result in
     let y = c .before .before .before .before .before .before .before .before .before .before .before .played in
     let m = y .last .1 .1 .1 .1 .1 in
     let g = stored-walked (a .rate) (a .source .now) (a .bodies .now) (a .numbers .now) (a .shape .now) (l .r) (l .floats) (l .bytes) (l .loops) (n .end) (n .next) b (w .fits) (w .tabled) (p .result) (p .ensures) (not-false _ (c .before .before .before .before .before .before .before .before .before .before .before .before .before .before .before .before .before .before .before .before .before .before .before .before .before .before .if1 .left)) (c .before .before .before .before .before .before .before .before .before .before .before .before .before .before .before .before .before .before .before .before .before .before .before .before .before .if2 .left) (c .before .before .before .before .before .before .before .before .before .before .before .before .before .before .before .before .before .before .before .before .before .before .before .named .last .0) (c .before .before .before .before .before .before .before .before .before .before .before .before .before .before .before .before .before .before .before .before .before .before .before .named .ensures) (c .before .before .before .before .before .before .before .before .before .before .before .before .before .before .before .before .before .before .before .before .before .before .before .named .kept .0) _ (c .before .before .before .before .before .before .before .before .before .before .before .before .before .before .before .before .state-of .result) (c .before .before .before .before .before .before .before .before .before .before .before .before .before .before .before .before .state-of .ensures) (y .result) (m .0) (m .1 .0) (m .1 .1 .0) (y .ensures .0) (y .ensures .1) (c .before .before .before .if3 .left) (c .before .larger .result) (c .before .larger .ensures) in
-    (walking-more _ _ _ _ _ _ _ _ _ w _ _ b _ _ _ _ _ _ g (w .goes), later _ _ _ (l .inv .1) (lined _ _ _ _ b .onward))
+    (λ mode. walking-more _ _ _ _ _ _ _ _ _ _ (l .inv .0 mode) _ _ b _ _ _ _ _ _ (g mode) (w .goes), later _ _ _ (l .inv .1) (lined _ _ _ _ b .onward))
 
 same-length-10 : tie.Need-same-length-10 Inv-loop μ-loop
-same-length-10 c = c .before .loop .inv .0 .fits .floats-length ∙ sym (c .before .before .before .before .before .before .before .before .before .pre .1 .fits .floats-length)
+same-length-10 c = c .before .loop .inv .0 Plain .fits .floats-length ∙ sym (c .before .before .before .before .before .before .before .before .before .pre .1 Plain .fits .floats-length)
 
 same-length-11 : tie.Need-same-length-11 Inv-loop μ-loop
-same-length-11 c = c .before .loop .inv .0 .fits .bytes-length ∙ sym (c .before .before .before .before .before .before .before .before .before .pre .1 .fits .bytes-length)
+same-length-11 c = c .before .loop .inv .0 Plain .fits .bytes-length ∙ sym (c .before .before .before .before .before .before .before .before .before .pre .1 Plain .fits .bytes-length)
 
 same-length-12 : tie.Need-same-length-12 Inv-loop μ-loop
-same-length-12 c = c .before .loop .inv .0 .fits .loops-length ∙ sym (c .before .before .before .before .before .before .before .before .before .pre .1 .fits .loops-length)
+same-length-12 c = c .before .loop .inv .0 Plain .fits .loops-length ∙ sym (c .before .before .before .before .before .before .before .before .before .pre .1 Plain .fits .loops-length)
 
 returns-4 : tie.Need-returns-4 Inv-loop μ-loop
 returns-4 c =
     let l = c .before .loop in
-    run-ends _ _ _ _ _ _ _ _ (l .inv .0) _ (l .inv .1) (c .loop-test .left)
+    λ mode. run-ends _ _ _ _ _ _ _ _ _ (l .inv .0 mode) _ (l .inv .1) (c .loop-test .left)
 
 pub part-lines-spec : {M : Type 1} → statement M
 part-lines-spec =

@@ -32,7 +32,7 @@ returns : tie.Need-returns
 returns c places fs is ls t w g =
     let a = c .before .before .before .before .before .before in
     goes-as _ _ _ _ _ _ _ _ _ _ _ (c .refused .ensures)
-    (directive-refuses _ places _ fs is ls t _ _ (a .pre) _ _ (c .before .before .before .read-directive .ensures) (c .before .before .refusal-of .ensures) (c .before .if1 .taken))
+    (directive-refuses _ _ places _ fs is ls t _ _ (a .pre) _ _ (c .before .before .before .read-directive .ensures) (c .before .before .refusal-of .ensures) (c .before .if1 .taken))
 
 changed-requires : tie.Need-changed-requires
 changed-requires c κs = search needs
@@ -47,7 +47,7 @@ returns-2 c places fs is ls t w g =
     let a = c .before .before .before .before .before .before .before in
     let b = c .before .changed .ensures in
     goes-as _ _ _ _ _ _ _ _ _ _ _ (c .passed .ensures ∙ ap (λ (q : Sofar). passedTo q (q .macros) (q .instruments) (q .line + 1) (a .args .next)) b)
-    (directive-goes _ places _ fs is ls t _ _ (a .pre) _ _ (c .before .before .before .before .read-directive .ensures) (c .before .before .before .refusal-of .ensures) (c .before .before .if1 .left) w g)
+    (directive-goes _ _ places _ fs is ls t _ _ (a .pre) _ _ (c .before .before .before .before .read-directive .ensures) (c .before .before .before .refusal-of .ensures) (c .before .before .if1 .left) w g)
 
 pub directive-step-spec : {M : Type 1} → statement M
 directive-step-spec =

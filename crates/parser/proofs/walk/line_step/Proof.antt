@@ -20,7 +20,7 @@ returns c =
     let a = s .args in
     let p = s .pre .0 in
     λ rate fs is ls f.
-    skipped-steps rate (a .source .now) (placeColumn ls) (a .r) fs is ls (tablesIn (a .bodies .now) (a .numbers .now) (a .shape .now)) (a .end) (a .next) (p .0) f (p .1) (c .passed .result) (c .passed .ensures)
+    skipped-steps (a .mode) rate (a .source .now) (placeColumn ls) (a .r) fs is ls (tablesIn (a .bodies .now) (a .numbers .now) (a .shape .now)) (a .end) (a .next) (p .0) f (p .1) (c .passed .result) (c .passed .ensures)
     (kind-none (a .source .now) (a .r .at) (a .end) (a .next) (lined _ _ _ _ (p .0)) _ (c .before .if1 .taken) (λ t n. kind-empty t n))
 
 shared-slice-read-b : tie.Need-shared-slice-read-b
@@ -35,7 +35,7 @@ returns-2 c =
     let a = s .args in
     let p = s .pre .0 in
     λ rate fs is ls f.
-    skipped-steps rate (a .source .now) (placeColumn ls) (a .r) fs is ls (tablesIn (a .bodies .now) (a .numbers .now) (a .shape .now)) (a .end) (a .next) (p .0) f (p .1) (c .passed2 .result) (c .passed2 .ensures)
+    skipped-steps (a .mode) rate (a .source .now) (placeColumn ls) (a .r) fs is ls (tablesIn (a .bodies .now) (a .numbers .now) (a .shape .now)) (a .end) (a .next) (p .0) f (p .1) (c .passed2 .result) (c .passed2 .ensures)
     (kind-here (a .source .now) (a .r .at) (a .end) (a .next) (lined _ _ _ _ (p .0)) _ (c .before .before .before .if1 .left) (λ t n e. kind-comment t n (e ∙ c .before .if2 .taken)))
 
 header-step-requires : tie.Need-header-step-requires
@@ -58,7 +58,7 @@ returns-3 c =
     let p = s .pre .0 in
     let l = h .last .1 .1 .1 in
     λ rate fs is ls f.
-    header-stepped rate (a .source .now) (placeColumn ls) (a .r) fs is ls (tablesIn (a .bodies .now) (a .numbers .now) (a .shape .now)) (a .next) (placeColumn ls) (h .result) fs is ls (tablesIn (a .bodies .now) (l .0) (l .1 .0))
+    header-stepped (a .mode) rate (a .source .now) (placeColumn ls) (a .r) fs is ls (tablesIn (a .bodies .now) (a .numbers .now) (a .shape .now)) (a .next) (placeColumn ls) (h .result) fs is ls (tablesIn (a .bodies .now) (l .0) (l .1 .0))
     (kind-here (a .source .now) (a .r .at) (a .end) (a .next) (lined _ _ _ _ (p .0)) _ (c .before .before .before .before .before .before .before .before .before .before .if1 .left) (λ t n e. kind-header t n (e ∙ c .before .before .before .before .before .before .before .if3 .taken)))
     (h .ensures (placeColumn ls) fs is ls (a .bodies .now) f (p .1))
 
@@ -72,7 +72,7 @@ returns-4 c =
     let a = s .args in
     let p = s .pre .0 in
     λ rate fs is ls f.
-    directive-stepped rate (a .source .now) (placeColumn ls) (a .r) fs is ls (tablesIn (a .bodies .now) (a .numbers .now) (a .shape .now)) (a .next) (placeColumn ls) (h .result) fs is ls (tablesIn (a .bodies .now) (a .numbers .now) (a .shape .now))
+    directive-stepped (a .mode) rate (a .source .now) (placeColumn ls) (a .r) fs is ls (tablesIn (a .bodies .now) (a .numbers .now) (a .shape .now)) (a .next) (placeColumn ls) (h .result) fs is ls (tablesIn (a .bodies .now) (a .numbers .now) (a .shape .now))
     (kind-here (a .source .now) (a .r .at) (a .end) (a .next) (lined _ _ _ _ (p .0)) _ (c .before .before .before .before .before .if1 .left) (λ t n e. kind-directive t n (e ∙ c .before .if4 .taken)))
     (h .ensures (placeColumn ls) fs is ls (tablesIn (a .bodies .now) (a .numbers .now) (a .shape .now)) f (p .1))
 
@@ -95,7 +95,7 @@ returns-5 c =
     let p = s .pre .0 in
     let l = h .last .1 .1 .1 in
     λ rate fs is ls f.
-    macro-stepped rate (a .source .now) (placeColumn ls) (a .r) fs is ls (tablesIn (a .bodies .now) (a .numbers .now) (a .shape .now)) (a .next) (placeColumn ls) (h .result) fs is ls (tablesIn (l .0) (a .numbers .now) (l .1 .0))
+    macro-stepped (a .mode) rate (a .source .now) (placeColumn ls) (a .r) fs is ls (tablesIn (a .bodies .now) (a .numbers .now) (a .shape .now)) (a .next) (placeColumn ls) (h .result) fs is ls (tablesIn (l .0) (a .numbers .now) (l .1 .0))
     (kind-here (a .source .now) (a .r .at) (a .end) (a .next) (lined _ _ _ _ (p .0)) _ (c .before .before .before .before .before .before .before .before .before .before .before .before .if1 .left) (λ t n e. kind-macro t n (e ∙ c .before .before .before .before .before .before .before .if5 .taken)))
     (h .ensures (placeColumn ls) fs is ls (a .numbers .now) f (p .1))
 
@@ -109,7 +109,7 @@ returns-6 c =
     let p = s .pre .0 in
     let kind = kind-here (a .source .now) (a .r .at) (a .end) (a .next) (lined _ _ _ _ (p .0)) _ (c .before .before .before .before .before .before .if1 .left) (λ t n e. kind-part t n (λ z. c .before .before .before .before .if2 .left (sym e ∙ z)) (λ z. c .before .before .before .if3 .left (sym e ∙ z)) (λ z. c .before .before .if4 .left (sym e ∙ z)) (λ z. c .before .if5 .left (sym e ∙ z))) in
     λ rate fs is ls f.
-    part-stepped rate (a .source .now) (placeColumn ls) (a .r) fs is ls (tablesIn (a .bodies .now) (a .numbers .now) (a .shape .now)) (a .next) (placeColumn ls) (c .passed3 .result) fs is ls (tablesIn (a .bodies .now) (a .numbers .now) (a .shape .now)) kind
+    part-stepped (a .mode) rate (a .source .now) (placeColumn ls) (a .r) fs is ls (tablesIn (a .bodies .now) (a .numbers .now) (a .shape .now)) (a .next) (placeColumn ls) (c .passed3 .result) fs is ls (tablesIn (a .bodies .now) (a .numbers .now) (a .shape .now)) kind
     (way-bare rate (a .source .now) (a .bodies .now) (a .numbers .now) (a .shape .now) (a .r) fs is ls (a .end) (a .next) (p .0) f (p .1)
     (nameAt (between (a .source .now) (a .r .at) (a .end))) refl (s .pre .1 (ap kindOf (lined _ _ _ _ (p .0) .line) ∙ kind)) (c .passed3 .result) (c .passed3 .ensures))
 

@@ -17,11 +17,11 @@ falls : (at q next long : ℕ) → at ≤ q → q < next → next ≤ long → l
 falls at q next long h m n = omega (arith, h, m, n)
 
 abbrev Inv-loop : tie.InvT-loop
-Inv-loop source bodies₀ numbers₀ shape₀ floats₀ bytes₀ loops₀ rate r₀ bodies numbers shape floats bytes loops r =
-    Walking rate source (linesRead rate 0 1 (linesOf source) nothingRead) (placeColumn loops) r floats bytes loops (tablesIn bodies numbers shape)
+Inv-loop source bodies₀ numbers₀ shape₀ floats₀ bytes₀ loops₀ rate mode r₀ bodies numbers shape floats bytes loops r =
+    Walking mode rate source (linesRead mode rate 0 1 (linesOf source) nothingRead) (placeColumn loops) r floats bytes loops (tablesIn bodies numbers shape)
 
 abbrev μ-loop : tie.MeasureT-loop
-μ-loop source bodies₀ numbers₀ shape₀ floats₀ bytes₀ loops₀ rate r₀ bodies numbers shape floats bytes loops r = length source - r .at
+μ-loop source bodies₀ numbers₀ shape₀ floats₀ bytes₀ loops₀ rate mode r₀ bodies numbers shape floats bytes loops r = length source - r .at
 
 default-instrument-requires : tie.Need-default-instrument-requires Inv-loop μ-loop
 default-instrument-requires c κs =
@@ -36,11 +36,11 @@ loop-holds c =
     let d = c .before .before .before .before .before .default-instrument in
     let a = c .before .before .before .before .before .before .before .before .before .before .before .before .before .before .before .args in
     let p = c .before .before .before .before .before .before .before .before .before .before .before .before .before .before .before .pre in
-    walking-begun (a .source .now) (a .floats .now) (a .bytes .now) (a .loops .now) (a .bodies .now) (d .last .0) (d .last .1 .0) (d .ensures .0) (a .rate) (c .nothing-sofar .result) (c .nothing-sofar .ensures)
+    walking-begun (a .source .now) (a .floats .now) (a .bytes .now) (a .loops .now) (a .bodies .now) (d .last .0) (d .last .1 .0) (d .ensures .0) (a .mode) (a .rate) (c .nothing-sofar .result) (c .nothing-sofar .ensures)
     (p .1 .1 .1 .1 .0) (p .1 .1 .1 .1 .1 .0) (p .1 .1 .1 .1 .1 .1) (p .1 .0) (d .kept .0 ∙ p .1 .1 .0) (d .kept .1 .0 ∙ p .1 .1 .1 .0) (d .ensures .1)
 
 part-lines-requires : tie.Need-part-lines-requires Inv-loop μ-loop
-part-lines-requires c κs = (c .before .before .before .before .before .before .before .before .before .before .before .before .before .before .before .before .before .before .before .before .before .before .before .before .pre .0, walking-own _ _ _ _ _ _ _ _ _ (c .before .before .before .before .before .before .before .before .loop .inv))
+part-lines-requires c κs = (c .before .before .before .before .before .before .before .before .before .before .before .before .before .before .before .before .before .before .before .before .before .before .before .before .pre .0, walking-own _ _ _ _ _ _ _ _ _ _ (c .before .before .before .before .before .before .before .before .loop .inv))
 
 same-length : tie.Need-same-length Inv-loop μ-loop
 same-length c = c .before .before .before .before .before .before .before .before .before .before .before .before .before .before .before .before .before .loop .inv .tabled .bodies-length ∙ sym (c .before .before .before .before .before .before .before .before .before .before .before .before .before .before .before .before .before .before .before .before .before .before .before .before .before .before .before .before .before .before .before .before .before .pre .1 .0)
@@ -67,7 +67,7 @@ returns c =
     let a = s .args in
     let y = c .before .before .before .before .before .before .before .before .part-lines in
     let m = y .last .1 .1 .1 .1 in
-    (run-ended (a .rate) (a .source .now) (placeColumn (l .loops)) (l .r) (l .floats) (l .bytes) (l .loops) (tablesIn (l .bodies) (l .numbers) (l .shape)) _ (l .inv) (y .result) (m .0) (m .1 .0) (m .1 .1 .0) (tablesIn (l .bodies) (l .numbers) (l .shape)) (y .ensures) (c .if2 .taken), λ z. absurd (c .if2 .taken z))
+    (run-ended (a .mode) (a .rate) (a .source .now) (placeColumn (l .loops)) (l .r) (l .floats) (l .bytes) (l .loops) (tablesIn (l .bodies) (l .numbers) (l .shape)) _ (l .inv) (y .result) (m .0) (m .1 .0) (m .1 .1 .0) (tablesIn (l .bodies) (l .numbers) (l .shape)) (y .ensures (a .mode)) (c .if2 .taken), λ z. absurd (c .if2 .taken z))
 
 same-length-7 : tie.Need-same-length-7 Inv-loop μ-loop
 same-length-7 c = c .before .before .before .before .before .before .before .before .before .before .before .before .before .before .before .before .before .before .loop .inv .tabled .bodies-length ∙ sym (c .before .before .before .before .before .before .before .before .before .before .before .before .before .before .before .before .before .before .before .before .before .before .before .before .before .before .before .before .before .before .before .before .before .before .pre .1 .0)
@@ -94,8 +94,8 @@ returns-2 c =
     let a = s .args in
     let y = c .before .before .before .before .before .before .before .before .before .part-lines in
     let m = y .last .1 .1 .1 .1 in
-    let w = run-on (a .rate) (a .source .now) (placeColumn (l .loops)) (l .r) (l .floats) (l .bytes) (l .loops) (tablesIn (l .bodies) (l .numbers) (l .shape)) _ (l .inv) (y .result) (m .0) (m .1 .0) (m .1 .1 .0) (tablesIn (l .bodies) (l .numbers) (l .shape)) (y .ensures) (c .before .if2 .left) in
-    (walking-end (a .rate) (a .source .now) (placeColumn (m .1 .1 .0)) (y .result) (m .0) (m .1 .0) (m .1 .1 .0) (tablesIn (l .bodies) (l .numbers) (l .shape)) _ w (c .if3 .taken), λ z. (w .fits, w .tabled))
+    let w = run-on (a .mode) (a .rate) (a .source .now) (placeColumn (l .loops)) (l .r) (l .floats) (l .bytes) (l .loops) (tablesIn (l .bodies) (l .numbers) (l .shape)) _ (l .inv) (y .result) (m .0) (m .1 .0) (m .1 .1 .0) (tablesIn (l .bodies) (l .numbers) (l .shape)) (y .ensures (a .mode)) (c .before .if2 .left) in
+    (walking-end (a .mode) (a .rate) (a .source .now) (placeColumn (m .1 .1 .0)) (y .result) (m .0) (m .1 .0) (m .1 .1 .0) (tablesIn (l .bodies) (l .numbers) (l .shape)) _ w (c .if3 .taken), λ z. (w .fits, w .tabled))
 
 line-at-requires : tie.Need-line-at-requires Inv-loop μ-loop
 line-at-requires c κs = tt
@@ -107,9 +107,9 @@ line-step-requires c κs =
     let a = s .args in
     let y = c .before .before .before .before .before .before .before .before .before .before .before .before .before .part-lines in
     let m = y .last .1 .1 .1 .1 in
-    let w = run-on (a .rate) (a .source .now) (placeColumn (l .loops)) (l .r) (l .floats) (l .bytes) (l .loops) (tablesIn (l .bodies) (l .numbers) (l .shape)) _ (l .inv) (y .result) (m .0) (m .1 .0) (m .1 .1 .0) (tablesIn (l .bodies) (l .numbers) (l .shape)) (y .ensures) (c .before .before .before .before .before .if2 .left) in
-    let b = walking-begins (a .rate) (a .source .now) (placeColumn (m .1 .1 .0)) (y .result) (m .0) (m .1 .0) (m .1 .1 .0) (tablesIn (l .bodies) (l .numbers) (l .shape)) _ w _ (c .before .before .before .line-at .ensures) (c .before .before .before .before .if3 .left) (s .pre .0) in
-    ((b, w .tabled), bare-as _ _ _ (c .before .before .before .line-at .ensures) (y .ensures .bare (c .before .before .before .before .before .if2 .left) (c .before .before .before .before .if3 .left)))
+    let w = run-on (a .mode) (a .rate) (a .source .now) (placeColumn (l .loops)) (l .r) (l .floats) (l .bytes) (l .loops) (tablesIn (l .bodies) (l .numbers) (l .shape)) _ (l .inv) (y .result) (m .0) (m .1 .0) (m .1 .1 .0) (tablesIn (l .bodies) (l .numbers) (l .shape)) (y .ensures (a .mode)) (c .before .before .before .before .before .if2 .left) in
+    let b = walking-begins (a .mode) (a .rate) (a .source .now) (placeColumn (m .1 .1 .0)) (y .result) (m .0) (m .1 .0) (m .1 .1 .0) (tablesIn (l .bodies) (l .numbers) (l .shape)) _ w _ (c .before .before .before .line-at .ensures) (c .before .before .before .before .if3 .left) (s .pre .0) in
+    ((b, w .tabled), bare-as _ _ _ (c .before .before .before .line-at .ensures) (y .ensures (a .mode) .bare (c .before .before .before .before .before .if2 .left) (c .before .before .before .before .if3 .left)))
 
 same-length-13 : tie.Need-same-length-13 Inv-loop μ-loop
 same-length-13 c = c .before .before .before .before .before .before .before .before .line-step .kept .1 .1 .1 .0 ∙ c .before .before .before .before .before .before .before .before .before .before .before .before .before .before .before .before .before .before .before .before .before .before .before .before .before .before .before .before .before .before .before .loop .inv .tabled .bodies-length ∙ sym (c .before .before .before .before .before .before .before .before .before .before .before .before .before .before .before .before .before .before .before .before .before .before .before .before .before .before .before .before .before .before .before .before .before .before .before .before .before .before .before .before .before .before .before .before .before .before .before .pre .1 .0)
@@ -136,10 +136,10 @@ returns-3 c =
     let a = s .args in
     let y = c .before .before .before .before .before .before .before .before .before .before .before .before .before .before .before .before .before .before .before .before .before .before .part-lines in
     let m = y .last .1 .1 .1 .1 in
-    let w = run-on (a .rate) (a .source .now) (placeColumn (l .loops)) (l .r) (l .floats) (l .bytes) (l .loops) (tablesIn (l .bodies) (l .numbers) (l .shape)) _ (l .inv) (y .result) (m .0) (m .1 .0) (m .1 .1 .0) (tablesIn (l .bodies) (l .numbers) (l .shape)) (y .ensures) (c .before .before .before .before .before .before .before .before .before .before .before .before .before .before .if2 .left) in
-    let b = walking-begins (a .rate) (a .source .now) (placeColumn (m .1 .1 .0)) (y .result) (m .0) (m .1 .0) (m .1 .1 .0) (tablesIn (l .bodies) (l .numbers) (l .shape)) _ w _ (c .before .before .before .before .before .before .before .before .before .before .before .before .line-at .ensures) (c .before .before .before .before .before .before .before .before .before .before .before .before .before .if3 .left) (s .pre .0) in
+    let w = run-on (a .mode) (a .rate) (a .source .now) (placeColumn (l .loops)) (l .r) (l .floats) (l .bytes) (l .loops) (tablesIn (l .bodies) (l .numbers) (l .shape)) _ (l .inv) (y .result) (m .0) (m .1 .0) (m .1 .1 .0) (tablesIn (l .bodies) (l .numbers) (l .shape)) (y .ensures (a .mode)) (c .before .before .before .before .before .before .before .before .before .before .before .before .before .before .if2 .left) in
+    let b = walking-begins (a .mode) (a .rate) (a .source .now) (placeColumn (m .1 .1 .0)) (y .result) (m .0) (m .1 .0) (m .1 .1 .0) (tablesIn (l .bodies) (l .numbers) (l .shape)) _ w _ (c .before .before .before .before .before .before .before .before .before .before .before .before .line-at .ensures) (c .before .before .before .before .before .before .before .before .before .before .before .before .before .if3 .left) (s .pre .0) in
     let g = c .before .before .before .before .before .before .before .before .line-step .ensures (a .rate) (m .0) (m .1 .0) (m .1 .1 .0) (w .fits) in
-    (walking-refused (a .rate) (a .source .now) (placeColumn (m .1 .1 .0)) (y .result) (m .0) (m .1 .0) (m .1 .1 .0) (tablesIn (l .bodies) (l .numbers) (l .shape)) _ w _ _ b _ _ _ _ _ _ g (c .if4 .taken), λ z. absurd (c .if4 .taken z))
+    (walking-refused (a .mode) (a .rate) (a .source .now) (placeColumn (m .1 .1 .0)) (y .result) (m .0) (m .1 .0) (m .1 .1 .0) (tablesIn (l .bodies) (l .numbers) (l .shape)) _ w _ _ b _ _ _ _ _ _ g (c .if4 .taken), λ z. absurd (c .if4 .taken z))
 
 loop-less : tie.Need-loop-less Inv-loop μ-loop
 loop-less c =
@@ -148,11 +148,11 @@ loop-less c =
     let a = s .args in
     let y = c .before .before .before .before .before .before .before .before .before .before .before .before .before .before .before .before .before .before .before .before .before .before .part-lines in
     let m = y .last .1 .1 .1 .1 in
-    let w = run-on (a .rate) (a .source .now) (placeColumn (l .loops)) (l .r) (l .floats) (l .bytes) (l .loops) (tablesIn (l .bodies) (l .numbers) (l .shape)) _ (l .inv) (y .result) (m .0) (m .1 .0) (m .1 .1 .0) (tablesIn (l .bodies) (l .numbers) (l .shape)) (y .ensures) (c .before .before .before .before .before .before .before .before .before .before .before .before .before .before .if2 .left) in
-    let b = walking-begins (a .rate) (a .source .now) (placeColumn (m .1 .1 .0)) (y .result) (m .0) (m .1 .0) (m .1 .1 .0) (tablesIn (l .bodies) (l .numbers) (l .shape)) _ w _ (c .before .before .before .before .before .before .before .before .before .before .before .before .line-at .ensures) (c .before .before .before .before .before .before .before .before .before .before .before .before .before .if3 .left) (s .pre .0) in
+    let w = run-on (a .mode) (a .rate) (a .source .now) (placeColumn (l .loops)) (l .r) (l .floats) (l .bytes) (l .loops) (tablesIn (l .bodies) (l .numbers) (l .shape)) _ (l .inv) (y .result) (m .0) (m .1 .0) (m .1 .1 .0) (tablesIn (l .bodies) (l .numbers) (l .shape)) (y .ensures (a .mode)) (c .before .before .before .before .before .before .before .before .before .before .before .before .before .before .if2 .left) in
+    let b = walking-begins (a .mode) (a .rate) (a .source .now) (placeColumn (m .1 .1 .0)) (y .result) (m .0) (m .1 .0) (m .1 .1 .0) (tablesIn (l .bodies) (l .numbers) (l .shape)) _ w _ (c .before .before .before .before .before .before .before .before .before .before .before .before .line-at .ensures) (c .before .before .before .before .before .before .before .before .before .before .before .before .before .if3 .left) (s .pre .0) in
     let g = c .before .before .before .before .before .before .before .before .line-step .ensures (a .rate) (m .0) (m .1 .0) (m .1 .1 .0) (w .fits) in
     let o = g .onward (c .if4 .left) in
-    falls _ _ _ _ (y .ensures .onward (c .before .before .before .before .before .before .before .before .before .before .before .before .before .before .if2 .left)) (o .0) (o .1)
+    falls _ _ _ _ (y .ensures (a .mode) .onward (c .before .before .before .before .before .before .before .before .before .before .before .before .before .before .if2 .left)) (o .0) (o .1)
 
 loop-again : tie.Need-loop-again Inv-loop μ-loop
 loop-again c =
@@ -161,10 +161,10 @@ loop-again c =
     let a = s .args in
     let y = c .before .before .before .before .before .before .before .before .before .before .before .before .before .before .before .before .before .before .before .before .before .before .part-lines in
     let m = y .last .1 .1 .1 .1 in
-    let w = run-on (a .rate) (a .source .now) (placeColumn (l .loops)) (l .r) (l .floats) (l .bytes) (l .loops) (tablesIn (l .bodies) (l .numbers) (l .shape)) _ (l .inv) (y .result) (m .0) (m .1 .0) (m .1 .1 .0) (tablesIn (l .bodies) (l .numbers) (l .shape)) (y .ensures) (c .before .before .before .before .before .before .before .before .before .before .before .before .before .before .if2 .left) in
-    let b = walking-begins (a .rate) (a .source .now) (placeColumn (m .1 .1 .0)) (y .result) (m .0) (m .1 .0) (m .1 .1 .0) (tablesIn (l .bodies) (l .numbers) (l .shape)) _ w _ (c .before .before .before .before .before .before .before .before .before .before .before .before .line-at .ensures) (c .before .before .before .before .before .before .before .before .before .before .before .before .before .if3 .left) (s .pre .0) in
+    let w = run-on (a .mode) (a .rate) (a .source .now) (placeColumn (l .loops)) (l .r) (l .floats) (l .bytes) (l .loops) (tablesIn (l .bodies) (l .numbers) (l .shape)) _ (l .inv) (y .result) (m .0) (m .1 .0) (m .1 .1 .0) (tablesIn (l .bodies) (l .numbers) (l .shape)) (y .ensures (a .mode)) (c .before .before .before .before .before .before .before .before .before .before .before .before .before .before .if2 .left) in
+    let b = walking-begins (a .mode) (a .rate) (a .source .now) (placeColumn (m .1 .1 .0)) (y .result) (m .0) (m .1 .0) (m .1 .1 .0) (tablesIn (l .bodies) (l .numbers) (l .shape)) _ w _ (c .before .before .before .before .before .before .before .before .before .before .before .before .line-at .ensures) (c .before .before .before .before .before .before .before .before .before .before .before .before .before .if3 .left) (s .pre .0) in
     let g = c .before .before .before .before .before .before .before .before .line-step .ensures (a .rate) (m .0) (m .1 .0) (m .1 .1 .0) (w .fits) in
-    walking-more (a .rate) (a .source .now) (placeColumn (m .1 .1 .0)) (y .result) (m .0) (m .1 .0) (m .1 .1 .0) (tablesIn (l .bodies) (l .numbers) (l .shape)) _ w _ _ b _ _ _ _ _ _ g (c .if4 .left)
+    walking-more (a .mode) (a .rate) (a .source .now) (placeColumn (m .1 .1 .0)) (y .result) (m .0) (m .1 .0) (m .1 .1 .0) (tablesIn (l .bodies) (l .numbers) (l .shape)) _ w _ _ b _ _ _ _ _ _ g (c .if4 .left)
 
 same-length-19 : tie.Need-same-length-19 Inv-loop μ-loop
 same-length-19 c = c .before .before .loop .inv .tabled .bodies-length ∙ sym (c .before .before .before .before .before .before .before .before .before .before .before .before .before .before .before .before .before .before .pre .1 .0)
@@ -187,7 +187,7 @@ same-length-24 c = c .before .before .loop .inv .fits .loops-length ∙ sym (c .
 returns-4 : tie.Need-returns-4 Inv-loop μ-loop
 returns-4 c =
     let i = c .before .before .loop .inv in
-    (walking-end _ _ _ _ _ _ _ _ _ i (c .if1 .left), λ z. (i .fits, i .tabled))
+    (walking-end _ _ _ _ _ _ _ _ _ _ i (c .if1 .left), λ z. (i .fits, i .tabled))
 
 pub walk-spec : {M : Type 1} → statement M
 walk-spec =

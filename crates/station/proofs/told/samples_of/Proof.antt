@@ -20,8 +20,8 @@ returns : tie.Need-returns
 returns c =
     let a = c .before .before .before .before .before .args in
     let q = c .before .before .before .read in
-    let e = text-refused (a .source .now) (q .result) (q .ensures) (c .before .if1 .taken) in
-    c .turned-away .ensures ∙ sym (ap told (samples-refused (a .source .now) _ _ e))
+    let e = text-refused (a .mode) (a .source .now) (q .result) (q .ensures) (c .before .if1 .taken) in
+    c .turned-away .ensures ∙ sym (ap told (samples-refused (a .mode) (a .source .now) _ _ e))
 
 check-requires : tie.Need-check-requires
 check-requires c κs = search needs
@@ -34,10 +34,10 @@ returns-2 c =
     let a = c .before .before .before .before .before .before .args in
     let q = c .before .before .before .before .read in
     let k = c .before .check in
-    let e = text-going (a .source .now) (q .result) (q .ensures) (c .before .before .if1 .left) in
+    let e = text-going (a .mode) (a .source .now) (q .result) (q .ensures) (c .before .before .if1 .left) in
     c .so-many .ensures
-    ∙ ap (λ (n : ℕ). told (going n)) (checked-length 44100 (q .result .sheet) (k .result) (k .ensures) (sheet-passes (a .source .now) _ e))
-    ∙ sym (ap told (samples-going (a .source .now) _ e))
+    ∙ ap (λ (n : ℕ). told (going n)) (checked-length 44100 (q .result .sheet) (k .result) (k .ensures) (sheet-passes (a .mode) (a .source .now) _ e))
+    ∙ sym (ap told (samples-going (a .mode) (a .source .now) _ e))
 
 pub samples-of-spec : {M : Type 1} → statement M
 samples-of-spec = tie.close (tie.spec read-requires turned-away-requires returns check-requires so-many-requires returns-2)

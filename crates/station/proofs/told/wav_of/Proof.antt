@@ -17,14 +17,14 @@ use Rattle.station.proofs.told.wav_of.Statement.{statement}
 use Rattle.station.proofs.told.wav_of.Tie as tie
 
 -- the text's sheet, and the number of its samples
-is-sheet : (c : tie.After-struct-known2) → sheetIn (c .before .before .before .before .before .before .before .args .source .now) ≡ going (c .before .before .before .before .read .result .sheet)
-is-sheet c = text-going (c .before .before .before .before .before .before .before .args .source .now) (c .before .before .before .before .read .result) (c .before .before .before .before .read .ensures) (c .before .before .if1 .left)
+is-sheet : (c : tie.After-struct-known2) → sheetIn (c .before .before .before .before .before .before .before .args .mode) (c .before .before .before .before .before .before .before .args .source .now) ≡ going (c .before .before .before .before .read .result .sheet)
+is-sheet c = text-going (c .before .before .before .before .before .before .before .args .mode) (c .before .before .before .before .before .before .before .args .source .now) (c .before .before .before .before .read .result) (c .before .before .before .before .read .ensures) (c .before .before .if1 .left)
 
 counted : (c : tie.After-struct-known2) → c .before .check .result .length ≡ lengthOf 44100 (c .before .before .before .before .read .result .sheet)
-counted c = checked-length 44100 (c .before .before .before .before .read .result .sheet) (c .before .check .result) (c .before .check .ensures) (sheet-passes _ _ (is-sheet c))
+counted c = checked-length 44100 (c .before .before .before .before .read .result .sheet) (c .before .check .result) (c .before .check .ensures) (sheet-passes _ _ _ (is-sheet c))
 
 few : (c : tie.After-struct-known2) → c .before .check .result .length ≤ 2000000000
-few c = subst (λ (n : ℕ). n ≤ 2000000000) (sym (counted c)) (passing 44100 _ (sheet-passes _ _ (is-sheet c)) .length)
+few c = subst (λ (n : ℕ). n ≤ 2000000000) (sym (counted c)) (passing 44100 _ (sheet-passes _ _ _ (is-sheet c)) .length)
 
 read-requires : tie.Need-read-requires
 read-requires c κs = search needs
@@ -36,8 +36,8 @@ returns : tie.Need-returns
 returns c =
     let a = c .before .before .before .before .before .before .args in
     let q = c .before .before .before .read in
-    let e = text-refused (a .source .now) (q .result) (q .ensures) (c .before .if1 .taken) in
-    (c .turned-away .ensures ∙ sym (wav-told-refused (a .source .now) _ _ e (length (a .buffer .now))), sym (wav-kept (a .source .now) _ _ e (a .buffer .now)))
+    let e = text-refused (a .mode) (a .source .now) (q .result) (q .ensures) (c .before .if1 .taken) in
+    (c .turned-away .ensures ∙ sym (wav-told-refused (a .mode) (a .source .now) _ _ e (length (a .buffer .now))), sym (wav-kept (a .mode) (a .source .now) _ _ e (a .buffer .now)))
 
 check-requires : tie.Need-check-requires
 check-requires c κs = search needs
@@ -54,8 +54,8 @@ returns-2 c =
     let e = is-sheet (c .before) in
     let n = counted (c .before) in
     let short : length (a .buffer .now) < 44 + 2 * lengthOf 44100 (c .before .before .before .before .before .read .result .sheet) = subst (λ (k : ℕ). length (a .buffer .now) < 44 + 2 * k) n (c .if2 .taken) in (
-      ap (λ (k : ℕ). record { count = 44 + 2 * k; refusal = 30; line = 0 }) n ∙ sym (wav-told-short (a .source .now) _ e (length (a .buffer .now)) short),
-      sym (wav-short-kept (a .source .now) _ e (a .buffer .now) short),
+      ap (λ (k : ℕ). record { count = 44 + 2 * k; refusal = 30; line = 0 }) n ∙ sym (wav-told-short (a .mode) (a .source .now) _ e (length (a .buffer .now)) short),
+      sym (wav-short-kept (a .mode) (a .source .now) _ e (a .buffer .now) short),
     )
 
 write-header-requires : tie.Need-write-header-requires
@@ -78,10 +78,10 @@ returns-3 c =
     let e = is-sheet k in
     let n = counted k in
     let room : 44 + 2 * lengthOf 44100 s ≤ length (a .buffer .now) = subst (λ (m : ℕ). 44 + 2 * m ≤ length (a .buffer .now)) n (c .before .before .before .before .before .before .before .before .before .if2 .left) in (
-      c .so-many .ensures ∙ ap (λ (m : ℕ). told (going (44 + 2 * m))) n ∙ sym (wav-told-room (a .source .now) s e (length (a .buffer .now)) room),
+      c .so-many .ensures ∙ ap (λ (m : ℕ). told (going (44 + 2 * m))) n ∙ sym (wav-told-room (a .mode) (a .source .now) s e (length (a .buffer .now)) room),
       c .before .before .before .write-window .ensures .1
           ∙ ap (λ (t : List ℕ). writtenIn 44100 s 0 t 44) (c .before .before .before .before .before .before .before .write-header .ensures .1)
-          ∙ wav-pieces (a .source .now) s e (a .buffer .now) room,
+          ∙ wav-pieces (a .mode) (a .source .now) s e (a .buffer .now) room,
     )
 
 pub wav-of-spec : {M : Type 1} → statement M

@@ -18,8 +18,8 @@ returns : tie.Need-returns
 returns c =
     let a = c .before .before .before .before .before .before .args in
     let q = c .before .before .before .read in
-    let e = text-refused (a .source .now) (q .result) (q .ensures) (c .before .if1 .taken) in
-    (c .turned-away .ensures ∙ sym (ap told (window-refused (a .source .now) _ _ e (a .start) (length (a .buffer .now)) (a .place))), sym (window-kept (a .source .now) _ _ e (a .start) (a .buffer .now) (a .place)))
+    let e = text-refused (a .mode) (a .source .now) (q .result) (q .ensures) (c .before .if1 .taken) in
+    (c .turned-away .ensures ∙ sym (ap told (window-refused (a .mode) (a .source .now) _ _ e (a .start) (length (a .buffer .now)) (a .place))), sym (window-kept (a .mode) (a .source .now) _ _ e (a .start) (a .buffer .now) (a .place)))
 
 write-window-requires : tie.Need-write-window-requires
 write-window-requires c κs = search needs
@@ -35,8 +35,8 @@ returns-2 c =
     let a = c .before .before .before .before .before .before .before .before .before .before .args in
     let q = c .before .before .before .before .before .before .before .read in
     let w = c .before .before .before .write-window .ensures in
-    let e = text-going (a .source .now) (q .result) (q .ensures) (c .before .before .before .before .before .if1 .left) in
-    (c .told-of .ensures ∙ ap told (w .0 ∙ sym (window-going (a .source .now) _ e (a .start) (length (a .buffer .now)) (a .place))), w .1 ∙ sym (window-written (a .source .now) _ e (a .start) (a .buffer .now) (a .place)))
+    let e = text-going (a .mode) (a .source .now) (q .result) (q .ensures) (c .before .before .before .before .before .if1 .left) in
+    (c .told-of .ensures ∙ ap told (w .0 ∙ sym (window-going (a .mode) (a .source .now) _ e (a .start) (length (a .buffer .now)) (a .place))), w .1 ∙ sym (window-written (a .mode) (a .source .now) _ e (a .start) (a .buffer .now) (a .place)))
 
 pub window-of-spec : {M : Type 1} → statement M
 window-of-spec = tie.close (tie.spec read-requires turned-away-requires returns write-window-requires told-of-requires same-length returns-2)

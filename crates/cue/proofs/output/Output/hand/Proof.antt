@@ -12,14 +12,11 @@ write-all-requires c κs = search needs
 returns : tie.Need-returns
 returns c = record { further = λ e. absurd (let z : _≡_ {A = ℕ} 0 1 = cc in omega arith); stays = λ e. search needs; last = search needs }
 
-add-reached : tie.Need-add-reached
-add-reached c = search needs
-
-add-t9 : tie.Need-add-t9
-add-t9 c = search needs
+add-next : tie.Need-add-next
+add-next c = search needs
 
 returns-2 : tie.Need-returns-2
 returns-2 c = record { further = λ e. search needs; stays = λ e. absurd (let z : _≡_ {A = ℕ} 0 1 = cc in omega arith); last = search needs }
 
 pub hand-spec : {M : Type 1} → statement M
-hand-spec = tie.close (tie.spec write-all-requires returns add-reached add-t9 returns-2)
+hand-spec = tie.close (tie.spec write-all-requires returns add-next returns-2)
