@@ -3,6 +3,7 @@
 Hand-made sheets, generated ones, some aimed at each refusal number, and every short one of some kinds. For the model a sheet counts
 only where its answer was held against another: the Rust's in the domain, one written down outside it. The reader is held against the
 model on every sheet: number, line and steps, parts, notes and commands. As the model has the Rust's in the domain, so has the reader.
+The same in strict mode, on every sheet too: the model's answer there is the plain one, or 32 where a token has a tail.
 """
 
 from collections import Counter
@@ -16,6 +17,8 @@ from judged import NUMBERS, Judged
 COUNT = 20_000
 # For each refusal number one aimed sheet to so many generated ones.
 AIMED = 200
+# One sheet with tails, or with what looks like one, to so many generated ones.
+TAILED = 10
 # How often each refusal number must come, from 1 on; the reader is held against the model outside the domain too.
 REFUSALS = dict(zip(NUMBERS, (
     *(80, 80, 295, 315, 290, 410, 440, 520, 365),
@@ -35,6 +38,12 @@ FLOORS = {
     "read": 18_500,
     "read and accepted": 9_300,
     **{f"read and refused {number}": least for number, least in READ.items()},
+    "tailed in the domain": 1_420,
+    "tailed read": 1_600,
+    "short read strictly": 19_500,
+    "read strictly": 20_100,
+    "read strictly and accepted": 5_400,
+    "read strictly and refused 32": 6_900,
 }
 
 
@@ -72,20 +81,32 @@ def hold_reader(sheets):
     return Counter({"read": len(sheets)}) + Counter(f"read and {sheet.verdict}" for sheet in sheets)
 
 
+def hold_strictly(sheets):
+    hold("ask_reading", proved("ask_reading"), [s.case(reading.request(s.text, True), reading.answer(s.strict)) for s in sheets])
+    counts = Counter({"read strictly": len(sheets)})
+    counts["read strictly and accepted"] = sum(sheet.strict[0].startswith("accepted") for sheet in sheets)
+    counts["read strictly and refused 32"] = sum(sheet.strict[0].startswith("refused 32 ") for sheet in sheets)
+    return counts
+
+
 def compare(seed, count):
     groups = {
         "hand-made": judged.hand_made(),
         "generated": judged.generated(seed, count),
         "aimed": judged.aimed(seed, 1 + count // AIMED),
     }
+    tails = judged.tailed(seed, 1 + count // TAILED)
     sheets = [sheet for group in groups.values() for sheet in group]
     # No part of a run that is shorter than the usual one.
     shorts = short() if count >= COUNT else []
-    judged.hold_model(sheets + shorts)
-    # The many short ones would hide how often the others are refused.
-    counts = judged.tally(groups) + hold_reader(sheets)
+    judged.hold_model(sheets + tails + shorts)
+    # The many short ones, and those with tails, would hide how often the others are refused.
+    counts = judged.tally(groups) + hold_reader(sheets) + hold_strictly(sheets + tails)
+    counts["tailed in the domain"] = judged.tally({"tailed": tails})["tailed in the domain"]
+    counts["tailed read"] = hold_reader(tails)["read"]
     counts["short in the domain"] = judged.tally({"short": shorts})["short in the domain"]
     counts["short read"] = hold_reader(shorts)["read"]
+    counts["short read strictly"] = hold_strictly(shorts)["read strictly"]
     return counts
 
 
@@ -126,6 +147,7 @@ def kept():
     sheets, built = judged.hand_made() + generated, build()
     judged.hold_model(sheets)
     numbered = list(enumerate(sheets, 1))
+    plain, strict = [sheet.answer for sheet in sheets], [sheet.strict for sheet in sheets]
     lines = {
         "sheets": [sheet.line for sheet in sheets],
         "answers": [line for number, sheet in numbered for line in (f"sheet {number}", *sheet.answer)],
@@ -133,6 +155,6 @@ def kept():
     }
     texts = {name: "".join(f"{line}\n" for line in header(what, built) + lines[name]) for name, what in STORED.items()}
     return {f"oracle/stored/{name}.txt": text.encode("ascii") for name, text in texts.items()} | {
-        "crates/ask_reading/stdin": b"".join(reading.request(sheet.text) for sheet in sheets),
-        "crates/ask_reading/stdout": b"".join(reading.answer(sheet.answer) for sheet in sheets),
+        "crates/ask_reading/stdin": b"".join(reading.request(sheet.text, mode) for mode in (False, True) for sheet in sheets),
+        "crates/ask_reading/stdout": b"".join(reading.answer(answer) for answer in (*plain, *strict)),
     }

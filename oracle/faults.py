@@ -120,6 +120,19 @@ def long_sheet(dice):
     return with_lines(dice, "#denom 4", f"p t{dice.between(1, 2)} l4 [c]{dice.between(750, 770)}[r]{dice.between(0, 800)}")
 
 
+# Numbers and keys with a tail, which strict mode refuses, and others beside them: a tail behind another refusal, and none at all.
+tailed = either(
+    operators(
+        "1 1 0 0 0,7 0", "1e3 1 0 0 1 0", "1 1 0 0 1 0x", "1 0.5.5 0 0 1 0", "1 1 0, 0, 1 0", "0,7 x 0 0 1 0", "x 0,7 0 0 1 0",
+        f"{LONG}x 1 0 0 1 0", "1 1 0 5. 1,0 0", "1, 1 0 0 1", OP + " 3x", OP + " 256x", OP + " 255.", OP + " x3", OP + " 3", "0,7 1 0 0 1 0 256",
+    ),
+    lines(
+        "#tempo 120bpm", "#tempo 120 bpm", "#tempo 0x", "#tempo 1001,5", "#tempo 120.5", "#tempo x120", "#denom 96th", "#denom 4/4", "#denom 129x",
+        "#key f+x", "#key f+ x", "#key fx+", "#key f++", "#key +-", "#key x", "#keys f+x",
+    ),
+)
+
+
 FAULTS = {
     1: too_long,
     2: high_byte,

@@ -77,9 +77,9 @@ def command_of(name):
     return words.decode().splitlines()
 
 
-def proved(name):
-    """Asks a proved program."""
-    return lambda text, seconds=SECONDS: started(name, command_of(name), text, seconds)
+def proved(name, *words):
+    """Asks a proved program that is started with these words."""
+    return lambda text, seconds=SECONDS: started(name, command_of(name) + list(words), text, seconds)
 
 
 def first_of(what, command, text, count, seconds):

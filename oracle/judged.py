@@ -6,7 +6,7 @@ that name a capacity put a sheet outside the domain; the Rust is not asked about
 
 import re
 from collections import Counter
-from functools import lru_cache
+from functools import cached_property, lru_cache
 from itertools import islice
 
 import limits
@@ -16,7 +16,7 @@ import rules
 from compare_numbers import SEMITONES, frequencies
 from dice import Dice
 from f32 import pattern
-from faults import FAULTS
+from faults import FAULTS, tailed as tailed_sheet
 from harness import Broken, Case, escape, hold, rust
 from sheets import sheets
 
@@ -56,6 +56,14 @@ class Judged:
         self.in_domain = self.number not in OUTSIDE
         self.verdict = f"refused {self.number}" if self.number else "accepted"
 
+    @cached_property
+    def strict(self):
+        """The model's answer in strict mode: the plain one, or refusal 32."""
+        found = model.answer(model.read(self.text, strict=True))
+        if found != self.answer and not found[0].startswith("refused 32 "):
+            raise Broken(f"{self.label}: the model says {self.answer[0]}, in strict mode {found[0]}\n  {self.line}")
+        return found
+
     def case(self, request, wanted):
         return Case(f"{self.label}: {self.line}", request, wanted)
 
@@ -87,6 +95,12 @@ def aimed(seed, count):
         for number in NUMBERS
         for i in range(1, count + 1)
     ]
+
+
+def tailed(seed, count):
+    """Sheets with tails, and others beside them."""
+    dice = Dice(seed ^ 32)
+    return [Judged(f"seed {seed} tailed, sheet {i}", tailed_sheet(Dice(dice.word()))) for i in range(1, count + 1)]
 
 
 def one_aimed(dice, number):

@@ -1,4 +1,4 @@
-"""A plain reading of document 01's rules for sheets, written from the document and not from the Rust.
+"""A plain reading of document 01's rules for sheets, and of request T-05's, written from the documents and not from the Rust.
 
 It gives what the Rust does not: the refusal number and line, and the step count. For an
 accepted sheet it also gives parts, notes and commands in the form of the oracle's `notes`, so
@@ -26,8 +26,8 @@ class Instrument:
         self.indent = 0
         self.release = Fraction(0)
 
-    def read_line(self, text, line):
-        """One operator line, with its refusals in 01's order."""
+    def read_line(self, text, line, strict=False):
+        """One operator line, with its refusals in 01's order; in strict mode 32 comes last for each token."""
         indent = rules.run_of(b"\t", text, 0)
         if self.operators == 0 and indent > 0:
             raise Refused(15, line)
@@ -36,19 +36,26 @@ class Instrument:
         tokens = text.split()
         if len(tokens) not in (6, 7):
             raise Refused(17, line)
-        numbers = [rules.checked_decimal(token, 0, 18, line)[0] for token in tokens[:6]]
-        feedback = self.feedback(tokens[6], line) if len(tokens) == 7 else 0
+        numbers = [self.number(token, line, strict) for token in tokens[:6]]
+        feedback = self.feedback(tokens[6], line, strict) if len(tokens) == 7 else 0
         if self.operators == rules.OPERATORS:
             raise Refused(21, line)
         self.add(indent, numbers, feedback)
 
     @staticmethod
-    def feedback(token, line):
-        number, _ = rules.digit_run(token, 0, rules.WORD)
+    def number(token, line, strict):
+        number, end = rules.checked_decimal(token, 0, 18, line)
+        rules.read_to_its_end(token, end, strict, line)
+        return number
+
+    @staticmethod
+    def feedback(token, line, strict):
+        number, end = rules.digit_run(token, 0, rules.WORD)
         if number is None:
             raise Refused(18, line)
         if number > rules.FEEDBACK:
             raise Refused(20, line)
+        rules.read_to_its_end(token, end, strict, line)
         return number
 
     def add(self, indent, numbers, feedback):
@@ -129,7 +136,8 @@ class Part:
 class Sheet:
     """Reads a source from its first line to its last; raises Refused at the first refusal."""
 
-    def __init__(self):
+    def __init__(self, strict=False):
+        self.strict = strict
         self.environment = dict(START)
         self.parts = {}
         self.macros = {}
@@ -195,7 +203,7 @@ class Sheet:
         instrument = Instrument()
         at += 1
         while at < len(lines) and not ends_operators(lines[at]):
-            instrument.read_line(lines[at], at + 1)
+            instrument.read_line(lines[at], at + 1, self.strict)
             at += 1
         self.names[name] = len(self.instruments)
         self.instruments.append(instrument)
@@ -206,12 +214,14 @@ class Sheet:
         if len(tokens) < 2:
             raise Refused(7, line)
         if tokens[0] == b"#key":
-            self.set_everywhere("key", rules.key_at(tokens[1], 0, line)[0])
+            field, (value, end) = "key", rules.key_at(tokens[1], 0, line)
         elif tokens[0] in rules.DIGIT_DIRECTIVES:
             field, least, most = rules.DIGIT_DIRECTIVES[tokens[0]]
-            self.set_everywhere(field, self.ranged(tokens[1], 0, least, most, line)[0])
+            value, end = self.ranged(tokens[1], 0, least, most, line)
         else:
             raise Refused(6, line)
+        rules.read_to_its_end(tokens[1], end, self.strict, line)
+        self.set_everywhere(field, value)
 
     def set_everywhere(self, field, value):
         """In the starting environment and in every existing part's."""
@@ -398,9 +408,9 @@ class Sheet:
         part.put([(amplitude, rules.frequency(semitone), seconds, index)])
 
 
-def read(source):
+def read(source, strict=False):
     """The sheet of a source, or its refusal."""
-    sheet = Sheet()
+    sheet = Sheet(strict)
     try:
         sheet.read(source)
     except Refused as refusal:

@@ -6,10 +6,11 @@ Parts have no names in an answer, as the proved sheet has none.
 import struct
 
 OPERATOR, STACK = 0, 1
+PLAIN, STRICT = 0, 1
 
 
-def request(sheet):
-    return struct.pack("<I", len(sheet)) + sheet
+def request(sheet, strict=False):
+    return struct.pack("<II", len(sheet), STRICT if strict else PLAIN) + sheet
 
 
 def answer(lines):

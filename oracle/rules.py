@@ -115,6 +115,12 @@ def checked_decimal(text, at, unreadable, line):
     return decimal_value(*found), end
 
 
+def read_to_its_end(token, end, strict, line):
+    """Request T-05: in strict mode a token whose number or key ended before the token does is refused."""
+    if strict and end < len(token):
+        raise Refused(32, line)
+
+
 def key_at(text, at, line):
     """A key's letters and accidental and where it ends."""
     end = run_of(KEY_LETTERS, text, at)
