@@ -27,12 +27,18 @@ static uint8_t *bytes(size_t n) {
   return made;
 }
 
+/* The header file's own names stand for the two modes, so that they are held too. */
+static uint32_t mode_of(unsigned long number) {
+  if (number == 0) return CUE_PLAIN;
+  return number == 1 ? CUE_STRICT : (uint32_t)number;
+}
+
 static size_t called(const Request *r, const uint8_t *text, uint8_t *buffer, uint32_t *refusal, size_t *line) {
   switch (r->call) {
-    case 0: return cue_samples(text, r->len, (uint32_t)r->mode, refusal, line);
-    case 1: return cue_wav(text, r->len, (uint32_t)r->mode, buffer, r->room, refusal, line);
-    case 2: return cue_header(text, r->len, (uint32_t)r->mode, buffer, r->room, refusal, line);
-    case 3: return cue_window(text, r->len, (uint32_t)r->mode, r->start, buffer, r->room, r->place, refusal, line);
+    case 0: return cue_samples(text, r->len, mode_of(r->mode), refusal, line);
+    case 1: return cue_wav(text, r->len, mode_of(r->mode), buffer, r->room, refusal, line);
+    case 2: return cue_header(text, r->len, mode_of(r->mode), buffer, r->room, refusal, line);
+    case 3: return cue_window(text, r->len, mode_of(r->mode), r->start, buffer, r->room, r->place, refusal, line);
   }
   stop("no such call");
   return 0;

@@ -14,6 +14,7 @@ use fields::word::word;
 use libc::STDIN_FILENO;
 use lines::names::least;
 use strict::mode::Mode;
+use strict::mode::mode_of;
 
 // Reads the first n bytes, or as many as there are, and says how many.
 fn read_first(bytes: &mut [u8], n: usize) -> usize
@@ -35,10 +36,7 @@ fn follow(head: &[u8]) -> usize
 fn mode(head: &[u8]) -> Mode
     requires { ⌜ length (now head) ≡ 8 ⌝ }
 {
-    if word(head, 4) == 0 {
-        return Mode::Plain;
-    }
-    Mode::Strict
+    mode_of(word(head, 4))
 }
 
 // Answers one request, if a whole head is there, and says whether there may be more.

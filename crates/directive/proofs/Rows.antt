@@ -1,6 +1,6 @@
 -- Laws of directives: what each row of the table answers, which row a name has, and how the places of a line's tokens lead to them. Assumes nothing.
-use mathlib.Core.Path.{_≡_, sym, ap, _∙_}
-use mathlib.Core.Bool.{true, false}
+use mathlib.Core.Path.{_≡_, refl, sym, ap, subst, _∙_}
+use mathlib.Core.Bool.{Bool, true, false}
 use mathlib.Core.List.{List}
 use mathlib.Core.Option.{none, some}
 use Prim.Native.Nat.{ℕ, _+_, _-_, _≤_}
@@ -126,6 +126,35 @@ module _ (mode : Mode) (name text : List ℕ) (line : ℕ) where
       → directiveOutcome line (Refused 6) ≡ changeOf mode line name text
   unfolding changeOf directives rowNamed same bytes directiveOutcome
   unnamed e f g = rw (e, f, g, rowNamed)
+
+-- what holds of the three rows and of a name without one holds of every name, in one mode or in two at once
+module _ (M : Outcome (Environment → Environment) → Outcome (Environment → Environment) → Type 0) (m n : Mode) (line : ℕ) (text : List ℕ)
+    (tempo : M (changeOf m line (bytes "#tempo") text) (changeOf n line (bytes "#tempo") text))
+    (denominator : M (changeOf m line (bytes "#denom") text) (changeOf n line (bytes "#denom") text))
+    (key : M (changeOf m line (bytes "#key") text) (changeOf n line (bytes "#key") text))
+    (none : M (refused 6 line) (refused 6 line)) where
+  module _ (name : List ℕ) where
+    moved : (x y : Outcome (Environment → Environment)) → x ≡ changeOf m line name text → y ≡ changeOf n line name text → M x y
+        → M (changeOf m line name text) (changeOf n line name text)
+    moved x y e f h =
+        subst (λ (o : Outcome (Environment → Environment)). M o (changeOf n line name text)) e (subst (λ (o : Outcome (Environment → Environment)). M x o) f h)
+
+    third : (t : Bool) → same name (bytes "#key") ≡ t → same name (bytes "#denom") ≡ false → same name (bytes "#tempo") ≡ false
+        → M (changeOf m line name text) (changeOf n line name text)
+    unfolding directiveOutcome
+    third true e f g = moved _ _ (key-named m name text line g f e) (key-named n name text line g f e) key
+    third false e f g = moved _ _ (unnamed m name text line g f e) (unnamed n name text line g f e) none
+
+    second : (t : Bool) → same name (bytes "#denom") ≡ t → same name (bytes "#tempo") ≡ false → M (changeOf m line name text) (changeOf n line name text)
+    second true f g = moved _ _ (denominator-named m name text line g f) (denominator-named n name text line g f) denominator
+    second false f g = third (same name (bytes "#key")) refl f g
+
+    first : (t : Bool) → same name (bytes "#tempo") ≡ t → M (changeOf m line name text) (changeOf n line name text)
+    first true g = moved _ _ (tempo-named m name text line g) (tempo-named n name text line g) tempo
+    first false g = second (same name (bytes "#denom")) refl g
+
+    pub by-name : M (changeOf m line name text) (changeOf n line name text)
+    by-name = first (same name (bytes "#tempo")) refl
 
 -- ---- the tokens of a line
 

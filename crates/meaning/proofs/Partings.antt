@@ -22,6 +22,7 @@ use Rattle.strict.specs.declared.mode.Mode.the-variants.{Plain, Strict}
 use Rattle.strict.specs.Strict.{tailed, readToItsEnd}
 use Rattle.operators.specs.OperatorLines.{operatorLines, indentOf, indented, readable, present, numbersRead, feedbackRead, operatorRead, operatorsRead}
 use Rattle.directive.specs.Directives.{directives, changeOf, directiveOf}
+use Rattle.directive.proofs.Rows.{by-name}
 use Rattle.tables.specs.Tables.{headerOf}
 use Rattle.meaning.specs.Before as Before
 use Rattle.meaning.specs.Sheets.{Read, nothingRead, Kind, skipped, headerLine, directiveLine, macroLine, partLine, kindOf, takenBy, headerRead, directiveRead, lineRead, linesRead, allBelow128, sheetRead}
@@ -95,29 +96,25 @@ operators-beside before line above (l ∷ ls) =
 
 -- ---- directives
 
-module _ (line : ℕ) (name text : List ℕ) where
-  abbrev Changes : Type 0
-  Changes = Beside (changeOf Strict line name text) (changeOf Plain line name text)
+module _ (line : ℕ) (text : List ℕ) where
+  tempo-beside : Beside (changeOf Strict line (bytes "#tempo") text) (changeOf Plain line (bytes "#tempo") text)
+  unfolding changeOf directives rowNamed same bytes
+  tempo-beside = beside-after _ _ _ (λ v. beside-token line text _ _ _ (inl refl))
 
-  change-third : (t : Bool) → same name (bytes "#key") ≡ t → same name (bytes "#denom") ≡ false → same name (bytes "#tempo") ≡ false → Changes
-  unfolding changeOf directives rowNamed bytes
-  change-third true e f g = rw (g, f, e, rowNamed) (beside-after _ _ _ (λ k. beside-token line text _ _ _ (inl refl)))
-  change-third false e f g = rw (g, f, e, rowNamed) (inl refl)
+  denominator-beside : Beside (changeOf Strict line (bytes "#denom") text) (changeOf Plain line (bytes "#denom") text)
+  unfolding changeOf directives rowNamed same bytes
+  denominator-beside = beside-after _ _ _ (λ v. beside-token line text _ _ _ (inl refl))
 
-  change-second : (t : Bool) → same name (bytes "#denom") ≡ t → same name (bytes "#tempo") ≡ false → Changes
-  unfolding changeOf directives rowNamed bytes
-  change-second true f g = rw (g, f, rowNamed) (beside-after _ _ _ (λ v. beside-token line text _ _ _ (inl refl)))
-  change-second false f g = change-third (same name (bytes "#key")) refl f g
+  key-beside : Beside (changeOf Strict line (bytes "#key") text) (changeOf Plain line (bytes "#key") text)
+  unfolding changeOf directives rowNamed same bytes
+  key-beside = beside-after _ _ _ (λ k. beside-token line text _ _ _ (inl refl))
 
-  change-first : (t : Bool) → same name (bytes "#tempo") ≡ t → Changes
-  unfolding changeOf directives rowNamed bytes
-  change-first true g = rw (g, rowNamed) (beside-after _ _ _ (λ v. beside-token line text _ _ _ (inl refl)))
-  change-first false g = change-second (same name (bytes "#denom")) refl g
+  change-beside : (name : List ℕ) → Beside (changeOf Strict line name text) (changeOf Plain line name text)
+  change-beside name = by-name (λ x y. Beside x y) Strict Plain line text tempo-beside denominator-beside key-beside (inl refl) name
 
 directive-beside : (line : ℕ) (l : List ℕ) → Beside (directiveOf Strict line l) (directiveOf Plain line l)
 unfolding directiveOf
-directive-beside line l =
-    beside-after _ _ _ (λ n. change-first line (n .name) (firstToken (n .body)) (same (n .name) (bytes "#tempo")) refl)
+directive-beside line l = beside-after _ _ _ (λ n. change-beside line (firstToken (n .body)) (n .name))
 
 -- ---- lines
 

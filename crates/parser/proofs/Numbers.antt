@@ -20,6 +20,7 @@ use Rattle.environment.specs.Ranges.{digitRun, ranged}
 use Rattle.directive.specs.declared.directive.Directive.{Directive}
 use Rattle.directive.specs.declared.directive.Directive.the-variants.{Tempo, Denominator, OfKey, Refused}
 use Rattle.directive.specs.Directives.{directives, changeOf, directiveOf, directiveOutcome, applied}
+use Rattle.directive.proofs.Rows.{by-name}
 use Rattle.tables.specs.Named.{Macro}
 use Rattle.tables.specs.Tables.{macroOf, headerOf, numberOf}
 
@@ -35,30 +36,30 @@ unfolding ranged
 ranged-numbered line b n =
     numbered-then _ _ (numbered-without 7 line n (omega arith)) (λ v. numbered-unless 8 line _ _ (omega arith) (numbered-going v))
 
-module _ (mode : Mode) (line : ℕ) (name text : List ℕ) where
-  change-third : (t : Bool) → same name (bytes "#key") ≡ t → same name (bytes "#denom") ≡ false → same name (bytes "#tempo") ≡ false
-      → Numbered (changeOf mode line name text)
-  unfolding changeOf directives rowNamed bytes
-  change-third true e f g =
-      rw (g, f, e, rowNamed) (numbered-then _ _ (numbered-without 9 line (keyFound (keyAt text 0)) (omega arith)) (λ k. numbered-if _ _ _ _ (omega arith) (numbered-going (withKey k))))
-  change-third false e f g = rw (g, f, e, rowNamed) (numbered-refused _ 6 line (omega arith))
+module _ (mode : Mode) (line : ℕ) (text : List ℕ) where
+  tempo-numbered : Numbered (changeOf mode line (bytes "#tempo") text)
+  unfolding changeOf directives rowNamed same bytes
+  tempo-numbered =
+      numbered-then _ _ (ranged-numbered line tempos (digitRun (intAt valueMost text 0))) (λ v. numbered-if _ _ _ _ (omega arith) (numbered-going (withTempo v)))
 
-  change-second : (t : Bool) → same name (bytes "#denom") ≡ t → same name (bytes "#tempo") ≡ false → Numbered (changeOf mode line name text)
-  unfolding changeOf directives rowNamed bytes
-  change-second true f g =
-      rw (g, f, rowNamed) (numbered-then _ _ (ranged-numbered line denominators (digitRun (intAt valueMost text 0))) (λ v. numbered-if _ _ _ _ (omega arith) (numbered-going (withDenominator v))))
-  change-second false f g = change-third (same name (bytes "#key")) refl f g
+  denominator-numbered : Numbered (changeOf mode line (bytes "#denom") text)
+  unfolding changeOf directives rowNamed same bytes
+  denominator-numbered =
+      numbered-then _ _ (ranged-numbered line denominators (digitRun (intAt valueMost text 0))) (λ v. numbered-if _ _ _ _ (omega arith) (numbered-going (withDenominator v)))
 
-  change-first : (t : Bool) → same name (bytes "#tempo") ≡ t → Numbered (changeOf mode line name text)
-  unfolding changeOf directives rowNamed bytes
-  change-first true g =
-      rw (g, rowNamed) (numbered-then _ _ (ranged-numbered line tempos (digitRun (intAt valueMost text 0))) (λ v. numbered-if _ _ _ _ (omega arith) (numbered-going (withTempo v))))
-  change-first false g = change-second (same name (bytes "#denom")) refl g
+  key-numbered : Numbered (changeOf mode line (bytes "#key") text)
+  unfolding changeOf directives rowNamed same bytes
+  key-numbered =
+      numbered-then _ _ (numbered-without 9 line (keyFound (keyAt text 0)) (omega arith)) (λ k. numbered-if _ _ _ _ (omega arith) (numbered-going (withKey k)))
+
+  change-numbered : (name : List ℕ) → Numbered (changeOf mode line name text)
+  change-numbered name =
+      by-name (λ x y. Numbered x) mode mode line text tempo-numbered denominator-numbered key-numbered (numbered-refused _ 6 line (omega arith)) name
 
 pub directive-numbered : (mode : Mode) (line : ℕ) (l : List ℕ) → Numbered (directiveOf mode line l)
 unfolding directiveOf
 directive-numbered mode line l =
-    numbered-then _ _ (numbered-without 7 line (namedOf l) (omega arith)) (λ n. change-first mode line (n .name) (firstToken (n .body)) (same (n .name) (bytes "#tempo")) refl)
+    numbered-then _ _ (numbered-without 7 line (namedOf l) (omega arith)) (λ n. change-numbered mode line (firstToken (n .body)) (n .name))
 
 -- what is changed where there is no refusal, and the refusal
 pub directive-going : (d : Directive) (line n : ℕ) → n ≡ numberOf (directiveOutcome line d) → n ≡ 0 → Numbered (directiveOutcome line d)

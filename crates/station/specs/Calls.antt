@@ -3,7 +3,7 @@
 -- Assumes nothing.
 use mathlib.Core.Bool.{_&&_}
 use mathlib.Core.List.{List, _++_}
-use Prim.Native.Nat.{ℕ, zero, suc, _+_, _-_, _*_, min}
+use Prim.Native.Nat.{ℕ, _+_, _-_, _*_, min}
 use lib.Dec.{leb, ltb}
 use lib.ListN.{length}
 use Rattle.form.specs.Form.{header, oldSize}
@@ -13,7 +13,6 @@ use Rattle.sheet.specs.declared.sheet.Sheet.{Sheet}
 use Rattle.sheet.specs.Parts.{lengthOf}
 use Rattle.sheet.specs.Refusals.{Outcome, going, refused, _>>=_, _>>_, refuse_on_unless_, refuse_on_if_}
 use Rattle.strict.specs.declared.mode.Mode.{Mode}
-use Rattle.strict.specs.declared.mode.Mode.the-variants.{Plain, Strict}
 use Rattle.evaluator.specs.Samples.{samplesFrom}
 use Rattle.mixing.specs.Placing.{placed}
 use Rattle.meaning.specs.Sheets.{sheetRead}
@@ -32,14 +31,6 @@ unfoldable pub written : List ℕ → ℕ → Outcome (List ℕ) → List ℕ
 unfolding put
 written buffer at (going bs) = put buffer at bs
 written buffer at (refused k l) = buffer
-
--- ---- the mode
-
--- the mode that a number stands for: 0 is plain, and every other number is strict, so that a number that is none of the two lets no text through that one of
--- them would refuse
-unfoldable pub modeNumbered : ℕ → Mode
-modeNumbered zero = Plain
-modeNumbered (suc n) = Strict
 
 -- ---- the sheet of a text
 

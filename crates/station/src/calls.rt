@@ -3,22 +3,13 @@
 
 ghost use mathlib.Core.Path.{_≡_};
 ghost use lib.ListN.{length};
-ghost use Rattle.station.specs.Calls.{told, samplesAsked, headerAsked, headerWritten, windowAsked, windowWritten, wavTold, wavWritten, modeNumbered};
+ghost use Rattle.strict.specs.Strict.{modeNumbered};
+ghost use Rattle.station.specs.Calls.{told, samplesAsked, headerAsked, headerWritten, windowAsked, windowWritten, wavTold, wavWritten};
 use crate::told::header_of;
 use crate::told::samples_of;
 use crate::told::wav_of;
 use crate::told::window_of;
-use strict::mode::Mode;
-
-// The mode that a number stands for: 0 is plain, and every other number is strict.
-fn mode_of(number: u32) -> Mode
-    ensures { λ r. ⌜ r ≡ modeNumbered number ⌝ }
-{
-    if number == 0 {
-        return Mode::Plain;
-    }
-    Mode::Strict
-}
+use strict::mode::mode_of;
 
 // How many samples a sheet has, 0 where it is refused.
 #[no_mangle]

@@ -3,12 +3,18 @@
 -- asks `readToItsEnd` in its place among the refusals: in `operators` for a number and for a feedback, in `directive` for a value. Assumes nothing.
 use mathlib.Core.Bool.{Bool, false}
 use mathlib.Core.List.{List}
-use Prim.Native.Nat.{ℕ}
+use Prim.Native.Nat.{ℕ, zero, suc}
 use lib.Dec.{ltb}
 use lib.ListN.{length}
 use Rattle.sheet.specs.Refusals.{Outcome, refuse_on_if_}
 use Rattle.strict.specs.declared.mode.Mode.{Mode}
 use Rattle.strict.specs.declared.mode.Mode.the-variants.{Plain, Strict}
+
+-- the mode that a number stands for, where a caller has no enum: 0 is plain, and every other number is strict, so that a number that is none of the two lets no
+-- text through that one of them would refuse
+unfoldable pub modeNumbered : ℕ → Mode
+modeNumbered zero = Plain
+modeNumbered (suc n) = Strict
 
 -- a token has a tail where its reader stopped before its end, and strict mode alone asks
 unfoldable pub tailed : Mode → ℕ → ℕ → Bool

@@ -1,10 +1,10 @@
 -- `mode_of` is plain for 0 and strict for every other number. Assumes nothing.
 use mathlib.Core.Path.{_≡_, refl, sym, ap}
 use Prim.Native.Nat.{ℕ, zero, suc}
 use Rattle.strict.specs.declared.mode.Mode.the-variants.{Plain, Strict}
-use Rattle.station.specs.Calls.{modeNumbered}
-use Rattle.station.proofs.calls.mode_of.Statement.{statement}
-use Rattle.station.proofs.calls.mode_of.Tie as tie
+use Rattle.strict.specs.Strict.{modeNumbered}
+use Rattle.strict.proofs.mode.mode_of.Statement.{statement}
+use Rattle.strict.proofs.mode.mode_of.Tie as tie
 
 none : (n : ℕ) → n ≡ 0 → Plain ≡ modeNumbered n
 unfolding modeNumbered
