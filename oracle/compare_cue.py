@@ -11,7 +11,7 @@ from collections import Counter
 import judged
 from compare_wave import HEADER_BYTES, RATE, form
 from harness import command_of, first_of, hold_each, proved, rust
-from judged import NUMBERS
+from judged import ACCEPTED, NUMBERS, WITH_TAIL
 
 COUNT = 6_000
 # For each refusal number one aimed sheet to so many generated ones.
@@ -54,9 +54,9 @@ def header_case(sheet):
 
 def strict_case(sheet):
     """In strict mode: the line of the refusal, or plain mode's file."""
-    if sheet.strict[0].startswith("refused"):
-        return sheet.case(sheet.text, f"{sheet.strict[0]}\n".encode("ascii"))
-    return file_case(sheet)
+    if sheet.strict_verdict == ACCEPTED:
+        return file_case(sheet)
+    return sheet.case(sheet.text, f"{sheet.strict[0]}\n".encode("ascii"))
 
 
 def header_of(text, seconds):
@@ -77,12 +77,12 @@ def compare(seed, count):
     hold_each("cue", proved("cue"), files, file_case)
     hold_each("cue", header_of, longer, header_case)
     strictly = judged.hand_made() + sheets[len(judged.hand_made()) :][:STRICTLY] + judged.tailed(seed, 1 + count // TAILED)
-    strictly = [sheet for sheet in strictly if is_short(sheet) or sheet.strict[0].startswith("refused")]
+    strictly = [sheet for sheet in strictly if is_short(sheet) or sheet.strict_verdict != ACCEPTED]
     hold_each("cue strict", proved("cue", "strict"), strictly, strict_case)
     return Counter(sheet.verdict for sheet in refused) + Counter({
         "strictly": len(strictly),
-        "strictly files": sum(sheet.strict[0].startswith("accepted") for sheet in strictly),
-        "strictly refused 32": sum(sheet.strict[0].startswith("refused 32 ") for sheet in strictly),
+        "strictly files": sum(sheet.strict_verdict == ACCEPTED for sheet in strictly),
+        "strictly refused 32": sum(sheet.strict_verdict == WITH_TAIL for sheet in strictly),
         "files": len(files),
         "samples": sum(sheet.length for sheet in files),
         "headers of longer files": len(longer),

@@ -83,10 +83,7 @@ def hold_reader(sheets):
 
 def hold_strictly(sheets):
     hold("ask_reading", proved("ask_reading"), [s.case(reading.request(s.text, True), reading.answer(s.strict)) for s in sheets])
-    counts = Counter({"read strictly": len(sheets)})
-    counts["read strictly and accepted"] = sum(sheet.strict[0].startswith("accepted") for sheet in sheets)
-    counts["read strictly and refused 32"] = sum(sheet.strict[0].startswith("refused 32 ") for sheet in sheets)
-    return counts
+    return Counter({"read strictly": len(sheets)}) + Counter(f"read strictly and {sheet.strict_verdict}" for sheet in sheets)
 
 
 def compare(seed, count):

@@ -21,6 +21,8 @@ from harness import Broken, Case, escape, hold, rust
 from sheets import sheets
 
 NUMBERS = range(1, 28)
+# Two verdicts: the second is strict mode's alone.
+ACCEPTED, WITH_TAIL = "accepted", "refused 32"
 # Refusals for which the Rust has no counterpart, with the reason why a sheet is left out.
 OUTSIDE = {
     1: "source over 32,768 bytes",
@@ -33,6 +35,12 @@ OUTSIDE = {
     24: "a note over 16,777,216 samples",
     27: "a sheet over 2,000,000,000 samples",
 }
+
+
+def verdict_of(answer):
+    """`accepted`, or `refused N`."""
+    kind, number, *_ = answer[0].split()
+    return kind if kind == ACCEPTED else f"{kind} {number}"
 
 
 def cost_of(sheet):
@@ -54,15 +62,19 @@ class Judged:
         self.number = getattr(found, "number", 0)
         self.length, self.cost = (0, 0) if self.number else (found.length(), cost_of(found))
         self.in_domain = self.number not in OUTSIDE
-        self.verdict = f"refused {self.number}" if self.number else "accepted"
+        self.verdict = verdict_of(self.answer)
 
     @cached_property
     def strict(self):
         """The model's answer in strict mode: the plain one, or refusal 32."""
         found = model.answer(model.read(self.text, strict=True))
-        if found != self.answer and not found[0].startswith("refused 32 "):
+        if found != self.answer and verdict_of(found) != WITH_TAIL:
             raise Broken(f"{self.label}: the model says {self.answer[0]}, in strict mode {found[0]}\n  {self.line}")
         return found
+
+    @property
+    def strict_verdict(self):
+        return verdict_of(self.strict)
 
     def case(self, request, wanted):
         return Case(f"{self.label}: {self.line}", request, wanted)
