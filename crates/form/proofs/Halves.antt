@@ -1,20 +1,21 @@
 -- Half away from zero by doubling: twice a float is exact while it does not overflow, and half of the whole part of the double, rounded up,
 -- is the nearest whole number. So code cuts off one fraction and halves. Assumes nothing.
-use mathlib.Core.Path.{_≡_, sym, ap, _∙_, subst}
+use mathlib.Core.Path.{_≡_, refl, sym, ap, _∙_, subst}
 use mathlib.Core.Bool.{Bool, true, false, true≢false, _&&_}
 use Prim.Native.Nat.{ℕ, zero, suc, _+_, _-_, _*_, _/_, _%_, _^_, _≤_, _<_}
 use native.Mathlib.Nat.{pow-suc, mul-pos, lt-of-le-of-lt, lt-of-mul-lt-mul-right, mul-lt-mul-of-pos-right, div-lt-iff-lt-mul, div-eq-of-lt, le-of-mul-le-mul-right, div-div-eq-div-mul, add-div-right, mul-div-le, lt-mul-div-succ}
 use native.Mathlib.Omega.{arith}
-use lib.Dec.{T, leb, ltb, eqb, leb→le, ltb→lt, le→leb, lit<}
+use lib.Dec.{T, leb, ltb, eqb, leb→le, ltb→lt, lit<}
 use lib.Pow.{pow-add, pow-pos}
 use lib.IntN.{ℤ, pos}
-use lib.Ieee.{Float, nan, inf, fin, Format, binary32, prec, emax, low, up, down, add, neg, lt, round, toUnsigned, fits}
+use lib.Ieee.{Float, nan, inf, fin, Format, binary32, prec, emax, low, up, down, add, neg, lt, eq, le, round, toUnsigned, fits}
 use lib.Ieee.Fits.{down-pos, neg-fits, and-l, and-r}
 use lib.Ieee.Exact.{HasValue, round-exact}
+use lib.Ieee.Order.{le-of-values}
 use lib.Ieee.Scale.{round-same}
 use lib.Ieee.Nearest.{div-same}
-use borrow.Author.Tests.{ltb-true, ltb-false}
-use Rattle.ieee.specs.Constants.{minusOne, plusZero}
+use borrow.Author.Tests.{ltb-true, ltb-false, lt-ltb, eq-eqb}
+use Rattle.ieee.specs.Constants.{plusZero}
 use Rattle.ieee.proofs.Nonnegative.{in-units}
 use Rattle.form.specs.Sample.{halfUp, nearestWhole, AtMostScale}
 
@@ -81,20 +82,8 @@ double-exact f s m e t c = rw (same-sum f s m e) (double f s e m t c)
 -- ---- the whole part of a float that is n / d, below 2 ^ 64
 
 module _ (n d : ℕ) (p : 0 < d) (h : n < 2 ^ 64 * d) where
-  -- however it is written
-  below-top : (m : ℕ) (e : ℤ) → m * up e * d ≡ n * down e → m * up e < 2 ^ 64 * down e
-  below-top m e v = lt-of-mul-lt-mul-right d (omega (arith, mul-lt-mul-of-pos-right h (down-pos e)))
-
-  -- it is in the range of the cast
-  cut-range : (y : Float) → HasValue y false n d → T (lt minusOne y) × T (lt y (fin false 1 (pos 64)))
-  unfolding lt
-  cut-range nan v = absurd v
-  cut-range (inf s) v = absurd v
-  cut-range (fin true m e) v = absurd (true≢false (v .0))
-  cut-range (fin false m e) v = omega (arith, le→leb, down-pos e, below-top m e (v .1))
-
-  -- which gives the quotient
-  cut-value : (y : Float) → HasValue y false n d → toUnsigned 64 y ≡ n / d
+  -- the cast to a u64 gives the quotient
+  pub cut-value : (y : Float) → HasValue y false n d → toUnsigned 64 y ≡ n / d
   unfolding toUnsigned
   cut-value nan v = absurd v
   cut-value (inf s) v = absurd v
@@ -103,15 +92,15 @@ module _ (n d : ℕ) (p : 0 < d) (h : n < 2 ^ 64 * d) where
 
 -- ---- what code knows of the double of a, the size of p
 
--- it is in the range of the cast, and half of its whole part, rounded up, is the whole number nearest to p
+-- it is from 0 to 65535, and half of its whole part, rounded up, is the whole number nearest to p
 pub record Halved (p a : Float) : Type 0 where
-  pub above : T (lt minusOne (add binary32 a a))
-  pub under : T (lt (add binary32 a a) (fin false 1 (pos 64)))
+  pub above : T (le plusZero (add binary32 a a))
+  pub under : T (le (add binary32 a a) (fin false 65535 (pos 0)))
   pub small : toUnsigned 64 (add binary32 a a) ≤ 65535
   pub half : (toUnsigned 64 (add binary32 a a) + 1) / 2 ≡ nearestWhole p
 
 -- what is at most 65535 d is below w d for each larger w
-under-limit : (a d w : ℕ) → 0 < d → 65535 < w → a ≤ 65535 * d → a < w * d
+pub under-limit : (a d w : ℕ) → 0 < d → 65535 < w → a ≤ 65535 * d → a < w * d
 under-limit a d w p g h = lt-of-le-of-lt h (mul-lt-mul-of-pos-right g p)
 
 -- a float with no sign
@@ -124,19 +113,26 @@ plain s m e t h =
     let v = double-exact binary32 false m e t (under-limit n (down e) (2 ^ 128) p (lit< tt) h) in
     let y = add binary32 (fin false m e) (fin false m e) in
     let c : toUnsigned 64 y ≡ n / down e = cut-value n (down e) p l y v in
-    let r = cut-range n (down e) p l y v in
     let k : n / down e < 65536 = div-lt-iff-lt-mul p .1 (under-limit n (down e) 65536 p (lit< tt) h) in
-    record { above = r .0; under = r .1; small = omega arith; half = ap (λ (q : ℕ). (q + 1) / 2) c ∙ half-of-double (m * up e) (down e) p }
+    record {
+      above = le-of-values plusZero y 0 1 n (down e) (lit< tt) p (refl, refl) v (omega arith);
+      under = le-of-values y (fin false 65535 (pos 0)) n (down e) 65535 1 p (lit< tt) v (refl, refl) (omega arith);
+      small = omega arith;
+      half = ap (λ (q : ℕ). (q + 1) / 2) c ∙ half-of-double (m * up e) (down e) p;
+    }
 
--- what equals -0.0 is in the range of the cast, which gives 0
-zero-range : (d : ℕ) (y : Float) → 0 < d → HasValue y true 0 d → T (lt minusOne y) × T (lt y (fin false 1 (pos 64))) × (toUnsigned 64 y ≡ 0)
-unfolding lt toUnsigned
+-- what equals -0.0 is in that range too, and the cast gives 0
+zero-range : (d : ℕ) (y : Float) → 0 < d → HasValue y true 0 d → T (le plusZero y) × T (le y (fin false 65535 (pos 0))) × (toUnsigned 64 y ≡ 0)
+unfolding le lt eq toUnsigned
 zero-range d nan p v = absurd v
 zero-range d (inf s) p v = absurd v
 zero-range d (fin false m e) p v = absurd (true≢false (sym (v .0)))
 zero-range d (fin true m e) p v =
-    let z : m * up e ≤ 0 = le-of-mul-le-mul-right (omega (arith, v .1)) p in
-    omega (arith, le→leb, down-pos e)
+    let z : m * up e ≤ 0 = le-of-mul-le-mul-right (omega (arith, v .1)) p in (
+      rw (eq-eqb (0 * down e) (m * up e * 1) (omega arith), eq-eqb (0 * down e) 0 (omega arith)) tt,
+      rw (lt-ltb 0 (m * up e * 1 + 65535 * down e) (omega (arith, down-pos e))) tt,
+      refl,
+    )
 
 -- and so is the double of -0.0
 minus-zero : (m : ℕ) (e : ℤ) → m * up e ≡ 0 → T (fits binary32 (fin true m e)) → Halved (fin true m e) (fin true m e)

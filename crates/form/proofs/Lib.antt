@@ -3,3 +3,4 @@ pub mod Examples
 pub mod Halves
 pub mod Published
 pub mod Scaled
+pub mod Whole

@@ -17,14 +17,14 @@ size-halved c =
     (λ w. rw (w .1) (halved-not-below (s .args .p) t (s .pre) (w .0 .left)))
     (c .if1 .came)
 
-truncating-f32-to-u64-requires : tie.Need-truncating-f32-to-u64-requires
-truncating-f32-to-u64-requires c κs = (size-halved c .above, size-halved c .under)
+whole-part-requires : tie.Need-whole-part-requires
+whole-part-requires c κs = (size-halved c .above, size-halved c .under)
 
 add-result : tie.Need-add-result
-add-result c = omega (arith, size-halved (c .before) .small, c .truncating-f32-to-u64 .ensures)
+add-result c = omega (arith, size-halved (c .before) .small, c .whole-part .ensures)
 
 returns : tie.Need-returns
-returns c = rw (c .truncating-f32-to-u64 .ensures) (size-halved (c .before) .half)
+returns c = rw (c .whole-part .ensures) (size-halved (c .before) .half)
 
 pub nearest-spec : {M : Type 1} → statement M
-nearest-spec = tie.close (tie.spec truncating-f32-to-u64-requires add-result returns)
+nearest-spec = tie.close (tie.spec whole-part-requires add-result returns)
