@@ -5,8 +5,8 @@ use fields::float::of_bits;
 use instrument::machine::Command;
 use instrument::machine::Instrument;
 use instrument::machine::Slot;
-use instrument::operator::Operator;
 use lines::names::least;
+use operator::operator::Operator;
 use sheet::note::Note;
 use sheet::sheet::Sheet;
 

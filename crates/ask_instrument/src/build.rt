@@ -7,7 +7,7 @@ use crate::record;
 use instrument::machine::Command;
 use instrument::machine::Instrument;
 use instrument::machine::Slot;
-use instrument::operator::Operator;
+use operator::operator::Operator;
 
 // No command counts; every slot holds Stack(0), which shows where a count is larger than it should be.
 pub fn silent() -> Instrument {

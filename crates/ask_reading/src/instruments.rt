@@ -3,8 +3,8 @@
 use crate::words;
 use instrument::machine::Command;
 use instrument::machine::Instrument;
-use instrument::operator::Operator;
 use lines::names::least;
+use operator::operator::Operator;
 
 fn operator(out: &mut [u8], from: usize, op: Operator) -> usize {
     let amplitude = op.amplitude;

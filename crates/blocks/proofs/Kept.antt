@@ -7,8 +7,8 @@ use native.Mathlib.Omega.{arith}
 use lib.ListN.{length, take, drop, set, getD}
 use lib.Seq.{sets, sets-eq, take-at, drop-at, drop-drop, length-take-le, getD-take, getD-drop}
 use lib.Ieee.{Float, nan}
-use Rattle.instrument.specs.declared.operator.Operator.{Operator}
-use Rattle.instrument.specs.Lines.{Line}
+use Rattle.operator.specs.declared.operator.Operator.{Operator}
+use Rattle.tree.specs.Lines.{Line}
 use Rattle.blocks.specs.Blocks.{linesIn}
 
 -- ---- a run of stores

@@ -22,8 +22,8 @@ use Rattle.number.specs.declared.decimal.Decimal.{Decimal}
 use Rattle.number.specs.declared.decimal.Decimal.the-variants.{Value, Unreadable, TooLong}
 use Rattle.number.specs.Digits.{valueMost, intAt}
 use Rattle.number.specs.Decimal.{decimalAt}
-use Rattle.instrument.specs.declared.operator.Operator.{Operator}
-use Rattle.instrument.specs.Lines.{Line, indentRefusal}
+use Rattle.operator.specs.declared.operator.Operator.{Operator}
+use Rattle.tree.specs.Lines.{Line, indentRefusal}
 use Rattle.sheet.specs.Refusals.{Outcome, going, refused, _>>=_, _>>_}
 use Rattle.sheet.proofs.Holds.{Holds, holds-of}
 use Rattle.sheet.proofs.Outcomes.{then-going, then-refused, then-same, Numbered, numbered-going, numbered-refused, numbered-of, numbered-unless, numbered-if, numbered-then}

@@ -8,7 +8,7 @@ use lib.Dec.{leb}
 use lib.ListN.{drop, getD}
 use lib.Ieee.{Float, nan}
 use Rattle.lines.specs.Lines.{linesOf}
-use Rattle.instrument.specs.Lines.{Line}
+use Rattle.tree.specs.Lines.{Line}
 use Rattle.sheet.specs.Capacities.{operatorsMost}
 use Rattle.sheet.specs.Refusals.{Outcome, going, refused}
 use Rattle.strict.specs.declared.mode.Mode.{Mode}

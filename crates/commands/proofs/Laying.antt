@@ -15,8 +15,8 @@ use Rattle.instrument.specs.declared.machine.Command.{Command}
 use Rattle.instrument.specs.declared.machine.Command.the-variants as Command
 use Rattle.instrument.specs.declared.machine.Slot.{Slot}
 use Rattle.instrument.specs.declared.machine.Instrument.{Instrument}
-use Rattle.instrument.specs.Lines.{Line, outdent, downward, commandsOf, larger, releaseFrom, releaseOf}
-use Rattle.instrument.proofs.CommandCount.{outdent-few, downward-few}
+use Rattle.tree.specs.Lines.{Line, outdent, downward, commandsOf, larger, releaseFrom, releaseOf}
+use Rattle.tree.proofs.CommandCount.{outdent-few, downward-few}
 use Rattle.blocks.specs.Blocks.{linesIn}
 use Rattle.commands.specs.declared.layout.Laid.{Laid}
 use Rattle.commands.specs.Commands.{noCommand, clipped, instrumentOf, linesHeld}

@@ -7,7 +7,7 @@ use Rattle.instrument.specs.declared.machine.Command.{Command}
 use Rattle.instrument.specs.declared.machine.Command.the-variants as Command
 use Rattle.instrument.specs.declared.machine.Slot.{Slot}
 use Rattle.instrument.specs.declared.machine.Instrument.{Instrument}
-use Rattle.instrument.specs.Lines.{Line, commandsOf, releaseOf}
+use Rattle.tree.specs.Lines.{Line, commandsOf, releaseOf}
 use Rattle.sheet.specs.Padding.{padded}
 use Rattle.sheet.specs.Capacities.{operatorsMost, commandsMost, feedbackMost}
 use Rattle.blocks.specs.Blocks.{linesIn}

@@ -5,9 +5,9 @@ use mathlib.Core.Option.{Option, none, some}
 use Prim.Native.Nat.{ℕ, zero, suc, _+_, _*_, min}
 use lib.ListN.{length, drop, getD, set}
 use lib.Ieee.{Float, nan}
-use Rattle.instrument.specs.declared.operator.Operator.{Operator}
+use Rattle.operator.specs.declared.operator.Operator.{Operator}
 use Rattle.instrument.specs.declared.machine.Command.{Command}
-use Rattle.instrument.specs.Lines.{Line}
+use Rattle.tree.specs.Lines.{Line}
 use Rattle.sheet.specs.Capacities.{commandsMost, feedbackMost}
 use Rattle.blocks.specs.Blocks.{linesIn}
 use Rattle.commands.specs.declared.layout.Laid.{Laid}

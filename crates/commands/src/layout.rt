@@ -5,14 +5,14 @@ ghost use mathlib.Core.List.{List, []};
 ghost use Prim.Native.Nat.{ℕ, _+_, _*_, _/_, _≤_, _<_, min};
 ghost use lib.ListN.{length, getD};
 ghost use Rattle.instrument.specs.declared.machine.Command.the-variants as Command;
-ghost use Rattle.instrument.specs.Lines.{outdent, larger, releaseOf};
+ghost use Rattle.tree.specs.Lines.{outdent, larger, releaseOf};
 ghost use Rattle.commands.specs.Commands.{instrumentOf, linesHeld};
 ghost use Rattle.commands.specs.Laying.{linesFrom, operatorAt, above, put, puts, laid};
 use instrument::machine::Command;
 use instrument::machine::Instrument;
 use instrument::machine::Slot;
-use instrument::operator::Operator;
 use lines::names::least;
+use operator::operator::Operator;
 
 // Commands in the front of their array, so many of them.
 struct Laid {

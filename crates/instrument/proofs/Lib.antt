@@ -1,12 +1,7 @@
-pub mod Accepted
-pub mod CommandCount
-pub mod Demand3
-pub mod Descent
-pub mod Examples
 pub mod Filled
 pub mod Filling
-pub mod Rounds
+pub mod Keeping
+pub mod LaneStacks
+pub mod Lent
 pub mod Running
-pub mod Stacks
-pub mod TreeLines
 pub mod Turns

@@ -1,6 +1,5 @@
 pub mod Evaluation
 pub mod Fill
-pub mod Lines
+pub mod Lanes
+pub mod Lent
 pub mod Machine
-pub mod Stack
-pub mod Tree

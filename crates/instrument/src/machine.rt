@@ -1,13 +1,17 @@
 // The stack machine: an instrument's commands, run in order, give its value at one time of a note.
 
 ghost use mathlib.Core.Path.{_≡_};
-ghost use Prim.Native.Nat.{_≤_, _<_, min};
+ghost use Prim.Native.Nat.{_*_, _≤_, _<_};
 ghost use lib.ListN.{length};
-ghost use Rattle.instrument.specs.Stack.{Settles, Steps};
-ghost use Rattle.sine.specs.Quarter.{quarter};
 ghost use Rattle.instrument.specs.Evaluation.{instrumentAt};
-ghost use Rattle.instrument.specs.Fill.{countFrom, mixed, filled};
-use crate::operator::Operator;
+ghost use Rattle.instrument.specs.Fill.{countFrom, filled};
+ghost use Rattle.instrument.specs.Lent.{filledBy};
+use crate::lanes::clear;
+use crate::lanes::mix_lanes;
+use crate::lanes::step;
+use crate::lanes::times_from;
+use lines::names::least;
+use operator::operator::Operator;
 
 // One command: an operator works on the value, or the value is set aside for later.
 pub enum Command {
@@ -27,74 +31,6 @@ pub struct Instrument {
     pub count: usize,
 }
 
-// The value and the depth of the stack after an operator.
-struct Settled {
-    value: f32,
-    depth: usize,
-}
-
-// After an operator gave v: the top entry loses one, or at 0 is added and removed.
-fn settle(counts: &mut [usize; 64], saved: &[f32; 64], depth: usize, v: f32) -> Settled
-    requires { ⌜ (depth ≤ 64) × (length (now counts) ≡ 64) ⌝ }
-    ensures { λ r. ⌜ Settles v depth (now (counts .entry)) (now (saved .entry)) (r .value) (r .depth) (now (counts .exit)) ⌝ }
-{
-    if depth == 0 {
-        return Settled { value: v, depth };
-    }
-    let top = depth - 1;
-    let left = counts[top];
-    if left == 0 {
-        let kept = saved[top];
-        return Settled {
-            value: v + kept,
-            depth: top,
-        };
-    }
-    counts[top] = left - 1;
-    Settled { value: v, depth }
-}
-
-// One command on the state in the arrays: the value and the depth afterwards.
-fn step(
-    command: Command,
-    table: &[u32; 1025],
-    counts: &mut [usize; 64],
-    saved: &mut [f32; 64],
-    depth: usize,
-    value: f32,
-    f: f32,
-    d: f32,
-    t: f32,
-) -> Settled
-    requires { ⌜ (now table ≡ quarter) × ((depth < 64) × ((length (now counts) ≡ 64) × (length (now saved) ≡ 64))) ⌝ }
-    ensures { λ r. ⌜ Steps f d t command depth value (now (counts .entry)) (now (saved .entry)) (r .value) (r .depth) (now (counts .exit)) (now (saved .exit)) ⌝ }
-{
-    match command {
-        Command::Operator(op) => {
-            let worked = op.eval_by(table, f, d, t, value);
-            settle(counts, saved, depth, worked)
-        }
-        Command::Stack(n) => {
-            counts[depth] = n;
-            saved[depth] = value;
-            Settled {
-                value: 0.0,
-                depth: depth + 1,
-            }
-        }
-    }
-}
-
-// The smaller of a count and 64, the most commands that an instrument holds.
-fn at_most_64(count: usize) -> usize
-    ensures { λ r. ⌜ r ≡ min count 64 ⌝ }
-{
-    if count < 64 {
-        return count;
-    }
-    64
-}
-
 // How many elements of a slice a note has samples for, from sample `first` on.
 fn room_from(first: usize, room: usize) -> usize
     ensures { λ r. ⌜ r ≡ countFrom first room ⌝ }
@@ -109,14 +45,39 @@ fn room_from(first: usize, room: usize) -> usize
     left
 }
 
-// A value at place i, where `old` stands.
-fn mix(added: usize, i: usize, old: f32, v: f32) -> f32
-    ensures { λ r. ⌜ r ≡ mixed added i old v ⌝ }
+// Counts for a stack that is 64 deep.
+fn blank_counts() -> [usize; 64]
+    ensures { λ r. ⌜ 64 ≡ length r ⌝ }
 {
-    if added <= i {
-        return v;
-    }
-    old + v
+    [0; 64]
+}
+
+// Room for what one lane sets aside.
+fn blank_stack() -> [f32; 64]
+    ensures { λ r. ⌜ 64 ≡ length r ⌝ }
+{
+    [0.0; 64]
+}
+
+// Room for what 16 lanes set aside.
+fn blank_few() -> [f32; 1024]
+    ensures { λ r. ⌜ 1024 ≡ length r ⌝ }
+{
+    [0.0; 1024]
+}
+
+// Room for what 32 lanes set aside.
+fn blank_saved() -> [f32; 2048]
+    ensures { λ r. ⌜ 2048 ≡ length r ⌝ }
+{
+    [0.0; 2048]
+}
+
+// A number for each of 32 lanes.
+fn blank_lanes() -> [f32; 32]
+    ensures { λ r. ⌜ 32 ≡ length r ⌝ }
+{
+    [0.0; 32]
 }
 
 impl Instrument {
@@ -126,31 +87,138 @@ impl Instrument {
         ensures { λ r. ⌜ r ≡ instrumentAt f d t self ⌝ }
     {
         let table = sine::quarter::table();
-        let mut counts = [0usize; 64];
-        let mut saved = [0.0f32; 64];
-        let mut value: f32 = 0.0;
+        let mut counts = blank_counts();
+        let mut saved = blank_stack();
+        let times = [t];
+        let mut values = [0.0f32; 1];
+        let most = least(self.count, 64);
         let mut depth: usize = 0;
-        let most = at_most_64(self.count);
         let mut k: usize = 0;
         while k < most {
             let slot = self.commands[k];
             let command = slot.command;
-            let next = step(
+            depth = step(
                 command,
                 &table,
                 &mut counts,
                 &mut saved,
+                &mut values,
+                &times,
                 depth,
-                value,
                 f,
                 d,
-                t,
             );
-            value = next.value;
-            depth = next.depth;
             k += 1;
         }
-        value
+        values[0]
+    }
+
+    // Mixes the note's `room` samples from `first` on into a slice, as many at a time as there are lanes: `saved`, `values` and `times`
+    // are theirs to use.
+    fn spread(
+        self,
+        table: &[u32; 1025],
+        out: &mut [f32],
+        saved: &mut [f32],
+        values: &mut [f32],
+        times: &mut [f32],
+        room: usize,
+        amplitude: f32,
+        f: f32,
+        d: f32,
+        rate: u32,
+        first: usize,
+        added: usize,
+    )
+        requires { ⌜ (room ≡ countFrom first (length (now out))) × ((0 < length (now values)) × ((length (now values) ≤ 32) × ((length (now saved) ≡ 64 * length (now values)) × (length (now times) ≡ length (now values))))) ⌝ }
+        ensures { λ _. ⌜ now (out .exit) ≡ filledBy (now (table .entry)) self amplitude f d rate first added (now (out .entry)) ⌝ }
+    {
+        let mut counts = blank_counts();
+        let unit = 1.0 / std::num::nearest_u32_to_f32(rate);
+        let count = least(self.count, 64);
+        let mut i: usize = 0;
+        while i < room {
+            let n = least(room - i, values.len());
+            times_from(times, first + i, n, unit);
+            clear(values);
+            let mut depth: usize = 0;
+            let mut k: usize = 0;
+            while k < count {
+                let slot = self.commands[k];
+                let command = slot.command;
+                depth = step(
+                    command,
+                    table,
+                    &mut counts,
+                    saved,
+                    values,
+                    &times[..n],
+                    depth,
+                    f,
+                    d,
+                );
+                k += 1;
+            }
+            mix_lanes(out, values, n, i, added, amplitude);
+            i += n;
+        }
+    }
+
+    // `fill` by a lent table of the sine, for one that fills many slices: by `quarter::table` it is `fill`. Where the samples are few
+    // there are fewer lanes, since making room for many takes longer than they do.
+    pub fn fill_by(
+        self,
+        table: &[u32; 1025],
+        out: &mut [f32],
+        amplitude: f32,
+        f: f32,
+        d: f32,
+        rate: u32,
+        first: usize,
+        added: usize,
+    ) -> usize
+        ensures count { λ r. ⌜ r ≡ countFrom first (length (now (out .entry))) ⌝ }
+        ensures values { λ _. ⌜ now (out .exit) ≡ filledBy (now (table .entry)) self amplitude f d rate first added (now (out .entry)) ⌝ }
+    {
+        let room = room_from(first, out.len());
+        if room <= 16 {
+            let mut saved = blank_few();
+            let mut values = [0.0f32; 16];
+            let mut times = [0.0f32; 16];
+            self.spread(
+                table,
+                out,
+                &mut saved,
+                &mut values,
+                &mut times,
+                room,
+                amplitude,
+                f,
+                d,
+                rate,
+                first,
+                added,
+            );
+            return room;
+        }
+        let mut saved = blank_saved();
+        let mut values = blank_lanes();
+        let mut times = blank_lanes();
+        self.spread(
+            table,
+            out,
+            &mut saved,
+            &mut values,
+            &mut times,
+            room,
+            amplitude,
+            f,
+            d,
+            rate,
+            first,
+            added,
+        );
+        room
     }
 
     // Mixes a note's samples from sample `first` on into a slice, and answers how many: each value is
@@ -170,39 +238,6 @@ impl Instrument {
         ensures values { λ _. ⌜ now (out .exit) ≡ filled self amplitude f d rate first added (now (out .entry)) ⌝ }
     {
         let table = sine::quarter::table();
-        let mut counts = [0usize; 64];
-        let mut saved = [0.0f32; 64];
-        let unit = 1.0 / std::num::nearest_u32_to_f32(rate);
-        let count = at_most_64(self.count);
-        let room = room_from(first, out.len());
-        let mut i: usize = 0;
-        while i < room {
-            let t = (first + i) as f32 * unit;
-            let mut sound: f32 = 0.0;
-            let mut depth: usize = 0;
-            let mut k: usize = 0;
-            while k < count {
-                let slot = self.commands[k];
-                let command = slot.command;
-                let next = step(
-                    command,
-                    &table,
-                    &mut counts,
-                    &mut saved,
-                    depth,
-                    sound,
-                    f,
-                    d,
-                    t,
-                );
-                sound = next.value;
-                depth = next.depth;
-                k += 1;
-            }
-            let old = out[i];
-            out[i] = mix(added, i, old, amplitude * sound);
-            i += 1;
-        }
-        room
+        self.fill_by(&table, out, amplitude, f, d, rate, first, added)
     }
 }

@@ -5,7 +5,7 @@ use Prim.Native.Nat.{ℕ}
 use Prim.Native.String.{String}
 use Rattle.text.specs.Quoted.{bytes}
 use Rattle.instrument.specs.declared.machine.Command.{Command}
-use Rattle.instrument.specs.Lines.{Line, commandsOf}
+use Rattle.tree.specs.Lines.{Line, commandsOf}
 use Rattle.sheet.specs.declared.note.Note.{Note}
 use Rattle.sheet.specs.Refusals.{Outcome, going, refused}
 use Rattle.strict.specs.declared.mode.Mode.{Mode}

@@ -14,11 +14,12 @@ use Rattle.ieee.specs.Constants.{plusZero}
 use Rattle.lines.specs.Tokens.{Named}
 use Rattle.instrument.specs.declared.machine.Command.{Command}
 use Rattle.instrument.specs.declared.machine.Slot.{Slot}
-use Rattle.instrument.specs.Evaluation.{operatorAt, listOf, instrumentAt}
-use Rattle.instrument.specs.Lines.{Line, accepted, commandsOf}
-use Rattle.instrument.specs.Tree.{sum, treeOf, stepped}
-use Rattle.instrument.proofs.CommandCount.{commands-few}
-use Rattle.instrument.proofs.Demand3.{demand3-instrument}
+use Rattle.operator.specs.Evaluation.{operatorAt}
+use Rattle.instrument.specs.Evaluation.{listOf, instrumentAt}
+use Rattle.tree.specs.Lines.{Line, accepted, commandsOf}
+use Rattle.tree.specs.Tree.{sum, treeOf, stepped}
+use Rattle.tree.proofs.CommandCount.{commands-few}
+use Rattle.tree.proofs.Demand3.{demand3-instrument}
 use Rattle.sheet.specs.Capacities.{commandsMost, instrumentsMost}
 use Rattle.sheet.specs.Refusals.{Outcome, going}
 use Rattle.sheet.proofs.Holds.{Holds, holds-going, holds-then, holds-after}

@@ -12,7 +12,7 @@ use borrow.Author.Tests.{ltb-true, leb-true}
 use Rattle.lines.specs.Tokens.{Named}
 use Rattle.lines.specs.Lines.{linesOf}
 use Rattle.instrument.specs.declared.machine.Instrument.{Instrument}
-use Rattle.instrument.specs.Lines.{Line}
+use Rattle.tree.specs.Lines.{Line}
 use Rattle.commands.specs.Commands.{instrumentOf}
 use Rattle.sheet.specs.Capacities.{instrumentsMost, sheetMost}
 use Rattle.sheet.specs.Lengths.{soundingOf, isCounted}

@@ -23,8 +23,8 @@ use Rattle.number.proofs.Cuts.{decimal-plain}
 use Rattle.instrument.specs.declared.machine.Command.{Command}
 use Rattle.instrument.specs.declared.machine.Command.the-variants as Command
 use Rattle.instrument.specs.declared.machine.Slot.{Slot}
-use Rattle.instrument.specs.Lines.{Line, outdent, downward, commandsOf, larger, releaseFrom, releaseOf}
-use Rattle.instrument.proofs.CommandCount.{commands-few}
+use Rattle.tree.specs.Lines.{Line, outdent, downward, commandsOf, larger, releaseFrom, releaseOf}
+use Rattle.tree.proofs.CommandCount.{commands-few}
 use Rattle.sheet.specs.Capacities.{commandsMost, feedbackMost}
 use Rattle.sheet.specs.Padding.{padded}
 use Rattle.sheet.specs.Refusals.{Outcome, going, refused}

@@ -6,7 +6,7 @@ use Prim.Native.Nat.{ℕ, _+_, _-_, max}
 use lib.ListN.{length, take, drop, replicate, length-append, length-map}
 use lib.Seq.{take-at, drop-at}
 use lib.Ieee.{Float}
-use Rattle.instrument.specs.Lines.{Line, releaseOf}
+use Rattle.tree.specs.Lines.{Line, releaseOf}
 use Rattle.commands.specs.Commands.{instrumentOf}
 use Rattle.sheet.specs.declared.note.Note.{Note}
 use Rattle.sheet.specs.Capacities.{partsMost, notesMost, instrumentsMost}

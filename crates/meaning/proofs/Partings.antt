@@ -14,7 +14,7 @@ use Rattle.lines.specs.Lines.{linesOf}
 use Rattle.lines.specs.Tokens.{tokensOf, firstToken}
 use Rattle.number.specs.Digits.{valueMost, intAt, intWidth}
 use Rattle.number.specs.Decimal.{decimalAt, decimalWidth}
-use Rattle.instrument.specs.Lines.{Line}
+use Rattle.tree.specs.Lines.{Line}
 use Rattle.sheet.specs.Capacities.{sourceMost}
 use Rattle.sheet.specs.Refusals.{Outcome, going, refused, _>>=_, _>>_, refuse_on_unless_, refuse_on_if_, refuse_on_without_}
 use Rattle.sheet.proofs.Outcomes.{then-refused}

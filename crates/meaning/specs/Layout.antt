@@ -3,7 +3,7 @@
 use mathlib.Core.List.{List, [], map}
 use Prim.Native.Nat.{ℕ}
 use lib.ListN.{length}
-use Rattle.instrument.specs.Lines.{Line}
+use Rattle.tree.specs.Lines.{Line}
 use Rattle.commands.specs.Commands.{instrumentOf}
 use Rattle.sheet.specs.Padding.{padded, silence}
 use Rattle.sheet.specs.declared.sheet.Sheet.{Sheet}

@@ -11,7 +11,7 @@ use Rattle.ieee.specs.Constants.{plusZero, one}
 use Rattle.text.specs.Characters.{rowOf}
 use Rattle.lines.specs.Lines.{linesOf}
 use Rattle.lines.specs.Tokens.{Named, namedOf}
-use Rattle.instrument.specs.Lines.{Line, releaseOf}
+use Rattle.tree.specs.Lines.{Line, releaseOf}
 use Rattle.sheet.specs.Capacities.{sourceMost, sheetMost}
 use Rattle.sheet.specs.Refusals.{Outcome, going, _>>=_, _>>_, refuse_on_unless_, refuse_on_if_}
 use Rattle.strict.specs.declared.mode.Mode.{Mode}

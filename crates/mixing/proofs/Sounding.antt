@@ -1,5 +1,5 @@
 -- When a note sounds: before its start and from its end on it does not, in between it does; so by the case a sample is mixed or stays. Assumes nothing.
-use mathlib.Core.Path.{_≡_, refl}
+use mathlib.Core.Path.{_≡_}
 use mathlib.Core.Bool.{true, false, and-false}
 use Prim.Native.Nat.{ℕ, _-_, _≤_, _<_}
 use lib.Dec.{leb}

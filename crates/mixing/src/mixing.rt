@@ -3,6 +3,7 @@
 ghost use mathlib.Core.Path.{_≡_};
 ghost use Prim.Native.Nat.{_+_, _-_, _*_, _≤_, _<_, min};
 ghost use lib.ListN.{length};
+ghost use Rattle.sine.specs.Quarter.{quarter};
 ghost use Rattle.tone.specs.Time.{noteMost};
 ghost use Rattle.sheet.specs.Capacities.{notesMost};
 ghost use Rattle.mixing.specs.Placing.{soundsOf, placedNote, placed};
@@ -25,8 +26,10 @@ fn beyond(a: usize, b: usize) -> usize
     a - b
 }
 
-// Mixes into a slice, whose first element is sample `from`, a note that starts at sample `start` and sounds in the elements from a to e.
+// Mixes into a slice, whose first element is sample `from`, a note that starts at sample `start` and sounds in the elements from a to e. The
+// sine's table is lent, so that it is made once for all notes.
 fn mix_note(
+    table: &[u32; 1025],
     out: &mut [f32],
     from: usize,
     by: Instrument,
@@ -37,7 +40,7 @@ fn mix_note(
     e: usize,
     covered: usize,
 )
-    requires { ⌜ (start ≤ notesMost * noteMost) × (a ≡ start - from) × (e ≡ min (start + soundsOf rate by note - from) (length (now out))) × (a < e) ⌝ }
+    requires { ⌜ (now table ≡ quarter) × (start ≤ notesMost * noteMost) × (a ≡ start - from) × (e ≡ min (start + soundsOf rate by note - from) (length (now out))) × (a < e) ⌝ }
     ensures { λ _. ⌜ now (out .exit) ≡ mixOne covered (placedNote rate by note start) from (now (out .entry)) ⌝ }
 {
     let first = (from + a) - start;
@@ -45,7 +48,8 @@ fn mix_note(
     let amplitude = note.amplitude;
     let frequency = note.frequency;
     let duration = note.duration;
-    by.fill(
+    by.fill_by(
+        table,
         &mut out[a..e],
         amplitude,
         frequency,
@@ -61,6 +65,7 @@ fn mix_note(
 pub fn mix(sheet: Sheet, out: &mut [f32], rate: u32, from: usize)
     ensures { λ _. ⌜ now (out .exit) ≡ mixAll 0 (placed rate sheet) from (now (out .entry)) ⌝ }
 {
+    let table = sine::quarter::table();
     let instruments = least(sheet.instruments, 32);
     let parts = least(sheet.parts, 16);
     let mut covered: usize = 0;
@@ -85,7 +90,7 @@ pub fn mix(sheet: Sheet, out: &mut [f32], rate: u32, from: usize)
             let e = least(beyond(start + sounds, from), out.len());
             if a < e {
                 let by = sheet.table[k];
-                mix_note(out, from, by, note, rate, start, a, e, before);
+                mix_note(&table, out, from, by, note, rate, start, a, e, before);
             }
         }
         p += 1;

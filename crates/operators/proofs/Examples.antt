@@ -7,7 +7,7 @@ use lib.Ieee.{Float, binary32, ofBits, round}
 use Rattle.text.specs.Quoted.{bytes}
 use Rattle.number.specs.Digits.{intAt}
 use Rattle.number.specs.Decimal.{decimalAt}
-use Rattle.instrument.specs.Lines.{Line}
+use Rattle.tree.specs.Lines.{Line}
 use Rattle.sheet.specs.Refusals.{Outcome, going, refused, _>>=_, _>>_, refuse_on_unless_, refuse_on_if_}
 use Rattle.strict.specs.declared.mode.Mode.the-variants.{Plain, Strict}
 use Rattle.operators.specs.OperatorLines.{operatorRead}

@@ -8,7 +8,7 @@ use lib.Dec.{T, eqb}
 use lib.ListN.{length}
 use lib.Ieee.Fits.{and-i, eq→eqb}
 use borrow.Author.Tests.{ltb-true}
-use Rattle.instrument.specs.Lines.{Line, indentRefusal, accepted}
+use Rattle.tree.specs.Lines.{Line, indentRefusal, accepted}
 use Rattle.sheet.specs.Capacities.{operatorsMost}
 use Rattle.sheet.specs.Refusals.{Outcome, going, refused, _>>_}
 use Rattle.sheet.proofs.Holds.{Holds, holds-going, holds-unless, holds-then, holds-after}

@@ -22,8 +22,8 @@ use Rattle.number.specs.Decimal.{decimalAt, decimalWidth}
 use Rattle.number.proofs.Cuts.{decimal-placed}
 use Rattle.number.proofs.Places.{int-placed}
 use Rattle.number.proofs.Tokens.{intMoved, decimalMoved, int-token, decimal-token}
-use Rattle.instrument.specs.declared.operator.Operator.{Operator}
-use Rattle.instrument.specs.Lines.{indentRefusal}
+use Rattle.operator.specs.declared.operator.Operator.{Operator}
+use Rattle.tree.specs.Lines.{indentRefusal}
 use Rattle.sheet.specs.Capacities.{feedbackMost}
 use Rattle.sheet.specs.Refusals.{Outcome, going, refused, _>>=_, _>>_, refuse_on_unless_}
 use Rattle.strict.specs.declared.mode.Mode.{Mode}

@@ -1,7 +1,7 @@
 -- What the reader of an operator line answers, in the terms of document 01: an operator line, or a refusal's number and line. Assumes nothing.
 use mathlib.Core.Option.{Option, none, some}
 use Prim.Native.Nat.{ℕ, zero, suc}
-use Rattle.instrument.specs.Lines.{Line}
+use Rattle.tree.specs.Lines.{Line}
 use Rattle.sheet.specs.Refusals.{Outcome, going, refused}
 use Rattle.operators.specs.declared.line.OperatorLine.{OperatorLine}
 use Rattle.operators.specs.declared.line.OperatorLine.the-variants.{Read, Refused}

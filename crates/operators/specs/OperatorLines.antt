@@ -17,8 +17,8 @@ use Rattle.number.specs.declared.decimal.Decimal.{Decimal}
 use Rattle.number.specs.declared.decimal.Decimal.the-variants.{Value, Unreadable, TooLong}
 use Rattle.number.specs.Digits.{valueMost, intAt, intWidth}
 use Rattle.number.specs.Decimal.{decimalAt, decimalWidth}
-use Rattle.instrument.specs.declared.operator.Operator.{Operator}
-use Rattle.instrument.specs.Lines.{Line, indentRefusal}
+use Rattle.operator.specs.declared.operator.Operator.{Operator}
+use Rattle.tree.specs.Lines.{Line, indentRefusal}
 use Rattle.sheet.specs.Capacities.{operatorsMost, feedbackMost}
 use Rattle.sheet.specs.Refusals.{Outcome, going, refused, _>>=_, _>>_, refuse_on_unless_}
 use Rattle.strict.specs.declared.mode.Mode.{Mode}

@@ -7,8 +7,8 @@ use lib.Dec.{ltb}
 use lib.ListN.{length, take, drop}
 use lib.Ieee.{Float}
 use Rattle.lines.specs.Tokens.{tokensOf}
-use Rattle.instrument.specs.declared.operator.Operator.{Operator}
-use Rattle.instrument.specs.Lines.{Line}
+use Rattle.operator.specs.declared.operator.Operator.{Operator}
+use Rattle.tree.specs.Lines.{Line}
 use Rattle.sheet.specs.Capacities.{operatorsMost}
 use Rattle.sheet.specs.Refusals.{Outcome, going, refused, _>>=_, _>>_, refuse_on_unless_}
 use Rattle.strict.specs.declared.mode.Mode.{Mode}

@@ -9,7 +9,7 @@ use lib.Seq.{getD-set-same}
 use lib.Ieee.{Float, round, add, sub, mul, div, lt, ofBits, ofInt}
 use Rattle.text.specs.Quoted.{bytes}
 use Rattle.lines.specs.Lines.{linesOf}
-use Rattle.instrument.specs.Lines.{Line, releaseOf}
+use Rattle.tree.specs.Lines.{Line, releaseOf}
 use Rattle.sheet.specs.Refusals.{Outcome, going, refused, _>>=_, _>>_, refuse_on_unless_, refuse_on_if_, refuse_on_without_}
 use Rattle.environment.specs.Environment.{atTheStart}
 use Rattle.blocks.specs.declared.block.Block.{Block}

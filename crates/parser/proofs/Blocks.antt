@@ -9,7 +9,7 @@ use lib.ListN.{length, drop, set}
 use lib.Ieee.{Float}
 use borrow.Author.Tests.{le-leb}
 use Rattle.lines.specs.Lines.{linesOf}
-use Rattle.instrument.specs.Lines.{releaseOf}
+use Rattle.tree.specs.Lines.{releaseOf}
 use Rattle.blocks.specs.declared.block.Block.{Block}
 use Rattle.operators.specs.OperatorLines.{operatorLines, operatorsRead}
 use Rattle.blocks.specs.Blocks.{blockRead, blockOutcome}

@@ -8,7 +8,7 @@ use lib.Dec.{leb, eqb}
 use lib.ListN.{getD}
 use lib.Ieee.{Float}
 use borrow.Author.Tests.{le-leb, lt-leb, eq-eqb, ne-eqb}
-use Rattle.instrument.specs.Lines.{releaseOf}
+use Rattle.tree.specs.Lines.{releaseOf}
 use Rattle.sheet.specs.Refusals.{Outcome, going, refused, _>>=_, _>>_, refuse_on_if_, refuse_on_unless_}
 use Rattle.sheet.proofs.Outcomes.{then-going, then-refused}
 use Rattle.part.specs.Columns.{loopsIn}

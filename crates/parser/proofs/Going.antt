@@ -6,7 +6,7 @@ use native.Mathlib.Omega.{arith}
 use lib.ListN.{take, drop}
 use lib.Ieee.{Float}
 use Rattle.lines.specs.Lines.{linesOf}
-use Rattle.instrument.specs.Lines.{releaseOf}
+use Rattle.tree.specs.Lines.{releaseOf}
 use Rattle.lines.proofs.LinePlaces.{Lined, line-placed}
 use Rattle.sheet.specs.Refusals.{Outcome, going, refused}
 use Rattle.bank.specs.Bank.{linesFrom}

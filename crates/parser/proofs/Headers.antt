@@ -12,7 +12,7 @@ use lib.Seq.{take-suc, take-set-le, getD-set-same, getD-set-other}
 use lib.Ieee.{Float, nan}
 use borrow.Author.Tests.{le-leb, eq-eqb, ltb-true}
 use Rattle.lines.specs.Lines.{linesOf, lineOf}
-use Rattle.instrument.specs.Lines.{Line, releaseOf}
+use Rattle.tree.specs.Lines.{Line, releaseOf}
 use Rattle.sheet.specs.Capacities.{instrumentsMost}
 use Rattle.sheet.specs.Refusals.{Outcome, going, refused}
 use Rattle.sheet.proofs.Holds.{Holds, holds-going, holds-of, holds-unless}

@@ -8,7 +8,7 @@ use lib.Ieee.{Float}
 use borrow.Author.Tests.{le-leb, eq-eqb, ltb-true}
 use Rattle.lines.specs.Lines.{lineOf}
 use Rattle.lines.specs.Names.{namesIn}
-use Rattle.instrument.specs.Lines.{Line, releaseOf}
+use Rattle.tree.specs.Lines.{Line, releaseOf}
 use Rattle.commands.specs.Commands.{linesHeld}
 use Rattle.layout.specs.Regions.{region}
 use Rattle.bank.specs.Bank.{linesAt, linesFrom}

@@ -9,7 +9,7 @@ use lib.ListN.{length, drop}
 use lib.Ieee.{Float}
 use borrow.Author.Tests.{leb-true}
 use Rattle.lines.specs.Tokens.{tokensOf}
-use Rattle.instrument.specs.Lines.{Line}
+use Rattle.tree.specs.Lines.{Line}
 use Rattle.sheet.specs.Capacities.{feedbackMost}
 use Rattle.sheet.proofs.Holds.{Holds, holds-going, holds-unless, holds-if, holds-then, holds-after}
 use Rattle.strict.specs.declared.mode.Mode.{Mode}

@@ -9,7 +9,7 @@ use lib.ListN.{length, take, drop, getD, set, replicate}
 use lib.Ieee.{Float}
 use Rattle.lines.specs.Lines.{linesOf, lineAt}
 use Rattle.lines.specs.Names.{between, namesIn}
-use Rattle.instrument.specs.Lines.{releaseOf}
+use Rattle.tree.specs.Lines.{releaseOf}
 use Rattle.sheet.specs.Capacities.{sourceMost, partsMost, notesMost, loopsMost, macrosMost, instrumentsMost, operatorsMost}
 use Rattle.sheet.specs.Refusals.{Outcome, going, refused}
 use Rattle.environment.specs.declared.environment.Environment.{Environment}

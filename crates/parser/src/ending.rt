@@ -5,7 +5,7 @@ ghost use mathlib.Core.List.{List, [], map};
 ghost use Prim.Native.Nat.{ℕ, _+_, _≤_, min};
 ghost use lib.ListN.{length};
 ghost use lib.Ieee.{Float};
-ghost use Rattle.instrument.specs.Lines.{releaseOf};
+ghost use Rattle.tree.specs.Lines.{releaseOf};
 ghost use Rattle.sheet.specs.Capacities.{partsMost};
 ghost use Rattle.sheet.specs.Refusals.{going, refused, _>>=_ as _then_};
 ghost use Rattle.bank.specs.Bank.{linesFrom};

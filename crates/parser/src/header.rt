@@ -6,7 +6,7 @@ ghost use Prim.Native.Nat.{ℕ, _+_, _*_, _≤_, _<_};
 ghost use lib.ListN.{length, take, drop};
 ghost use lib.Ieee.{Float};
 ghost use Rattle.lines.specs.Lines.{linesOf, lineOf};
-ghost use Rattle.instrument.specs.Lines.{releaseOf};
+ghost use Rattle.tree.specs.Lines.{releaseOf};
 ghost use Rattle.operators.specs.OperatorLines.{operatorLines};
 ghost use Rattle.commands.specs.Commands.{linesHeld};
 ghost use Rattle.bank.specs.Bank.{linesFrom};

@@ -1,7 +1,7 @@
 -- `lay` puts the operator of a line, and behind it a Stack where the line is outdented: one law for each exit. Assumes nothing.
 use mathlib.Core.Path.{_≡_, ap, _∙_}
 use native.Mathlib.Omega.{arith}
-use Rattle.instrument.specs.declared.operator.Operator.{Operator}
+use Rattle.operator.specs.declared.operator.Operator.{Operator}
 use Rattle.instrument.specs.declared.machine.Command.the-variants as Command
 use Rattle.commands.specs.declared.layout.Laid.{Laid}
 use Rattle.commands.specs.Laying.{operatorAt, put}

@@ -4,7 +4,7 @@ use mathlib.Core.List.{List}
 use Prim.Native.Nat.{ℕ, _-_, _≤_}
 use native.Mathlib.Omega.{arith}
 use borrow.Author.Needs.{needs}
-use Rattle.instrument.specs.Lines.{releaseFrom, releaseOf}
+use Rattle.tree.specs.Lines.{releaseFrom, releaseOf}
 use Rattle.commands.specs.Laying.{linesFrom}
 use Rattle.commands.proofs.Laying.{release-start, release-more, release-end}
 use Rattle.commands.proofs.layout.release_of.Statement.{statement}

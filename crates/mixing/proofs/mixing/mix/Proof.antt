@@ -17,25 +17,25 @@ use Rattle.mixing.specs.Placing.{nobody, playerOf, soundsOf, placedNote,
 use Rattle.mixing.specs.Mixing.{mixOne}
 use Rattle.mixing.proofs.Pieces.{note-none, note-sounds, note-reach}
 use Rattle.mixing.proofs.Players.{player-sounds, player-is}
-use Rattle.mixing.proofs.Walk.{Going, going-start, going-same, going-on, going-end, atPart, atNote, sheet-begins, part-done, parts-end, note-step}
+use Rattle.mixing.proofs.Walk.{Going, going-start, going-same, going-end, atPart, atNote, sheet-begins, part-done, parts-end, note-step}
 use Rattle.mixing.proofs.mixing.mix.Statement.{statement}
 use Rattle.mixing.proofs.mixing.mix.Tie as tie
 
 abbrev Inv-loop2 : tie.InvT-loop2
-Inv-loop2 out₀ rate from sheet instruments parts covered₀ n₀ p stop at₀ out covered n at =
+Inv-loop2 out₀ rate from sheet table instruments parts covered₀ n₀ p stop at₀ out covered n at =
     (n ≤ stop) × (at ≤ n * 16777216)
     × Going from (atNote rate (instrumentsOf sheet) (sheet .counts) parts (sheet .notes) p n₀ stop at₀) covered₀ out₀
     (atNote rate (instrumentsOf sheet) (sheet .counts) parts (sheet .notes) p n stop at) covered out
 
 abbrev μ-loop2 : tie.MeasureT-loop2
-μ-loop2 out₀ rate from sheet instruments parts covered₀ n₀ p stop at₀ out covered n at = stop - n
+μ-loop2 out₀ rate from sheet table instruments parts covered₀ n₀ p stop at₀ out covered n at = stop - n
 
 abbrev Inv-loop : tie.InvT-loop
-Inv-loop out₀ rate from sheet instruments parts covered₀ n₀ p₀ out covered n p =
+Inv-loop out₀ rate from sheet table instruments parts covered₀ n₀ p₀ out covered n p =
     (p ≤ parts) × (n ≤ 2048) × Going from (placed rate sheet) 0 out₀ (atPart rate (instrumentsOf sheet) (sheet .counts) parts (sheet .notes) p n) covered out
 
 abbrev μ-loop : tie.MeasureT-loop
-μ-loop out₀ rate from sheet instruments parts covered₀ n₀ p₀ out covered n p = parts - p
+μ-loop out₀ rate from sheet table instruments parts covered₀ n₀ p₀ out covered n p = parts - p
 
 -- a sheet that is owned has 16 counts, 2,048 notes and 32 instruments
 counts-16 : (c : tie.Start Inv-loop2 μ-loop2 Inv-loop μ-loop) → length (c .args .t1 .counts) ≡ 16
@@ -77,7 +77,7 @@ noNote = record { amplitude = nan; frequency = nan; duration = nan; instrument =
 -- a note sounds as many samples as the code has counted, and where it sounds its instrument is the one that the code has read
 module _ (c : tie.After-samples2 Inv-loop2 μ-loop2 Inv-loop μ-loop) where
   abbrev first : tie.Start Inv-loop2 μ-loop2 Inv-loop μ-loop
-  first = c .before .before .before .before .before .before .before .before .before .before .before .before .before .before .before .before
+  first = c .before .before .before .before .before .before .before .before .before .before .before .before .before .before .before .before .before
 
   -- where the instruments are counted, and where one is chosen
   abbrev limit : tie.After-least Inv-loop2 μ-loop2 Inv-loop μ-loop
@@ -119,6 +119,9 @@ module _ (c : tie.Then1 Inv-loop2 μ-loop2 Inv-loop μ-loop) where
       (note-sounds (c .before .before .before .before .before .before .before .before .before .before .before .before .before .loop2 .at) (here .samples2 .result) (first here .args .from) _ _ _ _ (c .before .before .before .beyond .ensures) (c .before .before .beyond2 .ensures)
       (c .before .least5 .ensures) (c .if1 .taken))
 
+table-requires : tie.Need-table-requires Inv-loop2 μ-loop2 Inv-loop μ-loop
+table-requires c κs = tt
+
 least-requires : tie.Need-least-requires Inv-loop2 μ-loop2 Inv-loop μ-loop
 least-requires c κs = search needs
 
@@ -127,7 +130,7 @@ least-requires-2 c κs = search needs
 
 loop-holds : tie.Need-loop-holds Inv-loop2 μ-loop2 Inv-loop μ-loop
 loop-holds c =
-    let s = c .before .before .before in
+    let s = c .before .before .before .before in
     (omega arith, omega arith, going-same (sheet-begins (s .args .rate) (c .least2 .result) (s .args .t1) (omega (arith, counts-16 s, c .least2 .ensures))) going-start)
 
 mul-least : tie.Need-mul-least Inv-loop2 μ-loop2 Inv-loop μ-loop
@@ -204,9 +207,10 @@ element-copy-out-by c = table-within (c .before .before .before .before .before 
 
 mix-note-requires : tie.Need-mix-note-requires Inv-loop2 μ-loop2 Inv-loop μ-loop
 mix-note-requires c κs =
-    let t = c .before .before in
+    let t = c .before .before .before in
     let q = here t in
-    let i = c .before .before .before .before .before .before .before .before .before .before .before .before .before .before in (
+    let i = c .before .before .before .before .before .before .before .before .before .before .before .before .before .before .before in (
+      q .before .before .before .before .before .before .before .before .before .before .before .before .before .before .before .table .ensures,
       start-within i,
       t .before .before .before .beyond .ensures,
       t .before .least5 .ensures
@@ -216,17 +220,17 @@ mix-note-requires c κs =
     )
 
 loop2-less : tie.Need-loop2-less Inv-loop2 μ-loop2 Inv-loop μ-loop
-loop2-less c = let i = c .before .before .before .before .before .before .before .before .before .before .before .before .before .before .before .before .before in less (i .before .loop2 .n) _ (i .loop2-test .taken)
+loop2-less c = let i = c .before .before .before .before .before .before .before .before .before .before .before .before .before .before .before .before .before .before in less (i .before .loop2 .n) _ (i .loop2-test .taken)
 
 loop2-again : tie.Need-loop2-again Inv-loop2 μ-loop2 Inv-loop μ-loop
 loop2-again c =
-    let q = c .before .before .before .before .before .before .before .before .before .before in
-    let i = c .before .before .before .before .before .before .before .before .before .before .before .before .before .before .before .before .before in
+    let q = c .before .before .before .before .before .before .before .before .before .before .before in
+    let i = c .before .before .before .before .before .before .before .before .before .before .before .before .before .before .before .before .before .before in
     let s = first q in
     let a = s .args .t1 in
     let o = i .before .before .before .before .before .loop in
     let l = i .before .loop2 in
-    let t = c .before .before .before .before .before in (
+    let t = c .before .before .before .before .before .before in (
       more (l .n) _ (i .loop2-test .taken),
       at-next (l .n) (l .at) (q .before .samples .result) (l .inv .1) (q .before .samples .ensures .1),
       note-step (s .args .rate) (instrumentsOf a) (a .counts) (i .before .before .before .before .before .before .least2 .result) (a .notes) {from = s .args .from} {covered₀ = o .covered} {all = atNote (s .args .rate) (instrumentsOf a) (a .counts) (i .before .before .before .before .before .before .least2 .result) (a .notes) (o .p) (o .n) (o .n + i .before .before .least3 .result) 0} {out₀ = o .out} (o .p) (l .n) (o .n + i .before .before .least3 .result) (l .at) (note q) noNote (l .covered) (l .out) (q .samples2 .result) _ _ _ refl
@@ -265,7 +269,7 @@ loop-less c = less (c .before .before .before .before .before .loop .p) (c .befo
 
 loop-again : tie.Need-loop-again Inv-loop2 μ-loop2 Inv-loop μ-loop
 loop-again c =
-    let s = c .before .before .before .before .before .before .before .before .before in
+    let s = c .before .before .before .before .before .before .before .before .before .before in
     let a = s .args .t1 in
     let o = c .before .before .before .before .before .loop in
     let i = c .before .before .before .before in
@@ -283,7 +287,7 @@ same-length c = c .before .loop .inv .2 .same
 
 returns : tie.Need-returns Inv-loop2 μ-loop2 Inv-loop μ-loop
 returns c =
-    let s = c .before .before .before .before .before in
+    let s = c .before .before .before .before .before .before in
     let a = s .args .t1 in
     let l = c .before .loop in
     let e : l .p ≡ c .before .before .least2 .result = meets (l .p) (c .before .before .least2 .result) (l .inv .0) (c .loop-test .left) in
@@ -297,6 +301,7 @@ mix-spec =
     μ-loop2
     Inv-loop
     μ-loop
+    table-requires
     least-requires
     least-requires-2
     loop-holds

@@ -4,7 +4,7 @@ use Prim.Native.Nat.{ℕ, zero, suc, _+_, _≤_, _<_}
 use native.Mathlib.Omega.{arith}
 use borrow.Author.Needs.{needs}
 use borrow.Author.Tests.{ne-eqb, le-leb, lt-leb}
-use Rattle.instrument.specs.Lines.{indentRefusal}
+use Rattle.tree.specs.Lines.{indentRefusal}
 use Rattle.operators.specs.Answers.{indentAbove}
 use Rattle.operators.proofs.line.indent_refusal.Statement.{statement}
 use Rattle.operators.proofs.line.indent_refusal.Tie as tie

@@ -4,7 +4,7 @@ use Prim.Native.Nat.{ℕ}
 use native.Mathlib.Omega.{arith}
 use lib.ListN.{drop}
 use Rattle.lines.specs.Tokens.{tokensOf}
-use Rattle.instrument.specs.Lines.{indentRefusal}
+use Rattle.tree.specs.Lines.{indentRefusal}
 use Rattle.operators.specs.OperatorLines.{indentOf}
 use Rattle.operators.specs.Answers.{outcomeOf, indentAbove}
 use Rattle.operators.specs.Steps.{Sixfold, finishedRead}

@@ -3,7 +3,7 @@ use mathlib.Core.Path.{ap₂, _∙_}
 use mathlib.Core.List.{List}
 use Prim.Native.Nat.{ℕ}
 use lib.Ieee.{Float}
-use Rattle.instrument.specs.Lines.{releaseOf}
+use Rattle.tree.specs.Lines.{releaseOf}
 use Rattle.commands.specs.Commands.{linesHeld}
 use Rattle.layout.proofs.Regions.{lent-region}
 use borrow.Author.Needs.{needs}

@@ -1,0 +1,3 @@
+pub mod LaneLaws
+pub mod Lent
+pub mod Rounds

@@ -1,0 +1,3 @@
+pub mod Evaluation
+pub mod Lanes
+pub mod Lent

@@ -1,0 +1,235 @@
+-- Why the stack has the tree's value. Once the lines from some line of indent i on have been run, last line first, the value is the sum of
+-- the forest that they begin with at level i, and the stack holds, for each smaller level that has a forest there, the sum of
+-- that forest, with the number of levels between it and the one above it on the stack. `descent` carries this from line to
+-- line: a line's children are the value, its later siblings the top of the stack. Assumes nothing.
+use mathlib.Core.Path.{_≡_, refl, sym, ap, ap₂, subst, _∙_}
+use mathlib.Core.Bool.{Bool, true, false, not}
+use mathlib.Core.Logic.{inl, inr}
+use mathlib.Core.List.{List, [], _∷_, _++_, reverseAux}
+use mathlib.Core.Option.{none, some}
+use Prim.Native.Nat.{ℕ, zero, suc, _+_, _-_, _≤_, _<_}
+use native.Mathlib.Nat.{le-of-suc-le-suc, eq-or-lt-of-le, not-suc-le-zero, le-refl, zero-add}
+use native.Mathlib.Numerals.{add-one}
+use native.Mathlib.Omega.{arith}
+use lib.Dec.{T, eqb, leb}
+use lib.Ieee.Fits.{and-l, and-r}
+use borrow.Author.Tests.{lt-ltb, le-ltb, eq-eqb, ne-eqb, leb-true, eqb-true}
+use Rattle.operator.specs.declared.operator.Operator.{Operator}
+use Rattle.instrument.specs.declared.machine.Command.{Command}
+use Rattle.instrument.specs.declared.machine.Command.the-variants as Command
+use Rattle.tree.specs.Lines.{Line, indentRefusal, accepted, outdent, downward, commandsOf}
+use Rattle.instrument.specs.Machine.{Entry, State, topped, settled, step, run, machine}
+use Rattle.tree.specs.Tree.{Forest, bare, grown, forestAt, treeOf, withLater, sum, steppedAfter, stepped}
+
+-- ---- the forest that a line begins
+
+pub forest-same : (l : Line) (ls : List Line) → forestAt (l .indent) (l ∷ ls) ≡ grown (l .op) (forestAt (suc (l .indent)) ls) (forestAt (l .indent) ls)
+unfolding forestAt
+forest-same l ls = rw (eq-eqb (l .indent) (l .indent) refl, forestAt)
+
+pub forest-ended : (j : ℕ) (l : Line) (ls : List Line) → l .indent < j → forestAt j (l ∷ ls) ≡ bare
+unfolding forestAt
+forest-ended j l ls h = rw (ne-eqb (l .indent) j (λ (e : l .indent ≡ j). omega arith), lt-ltb (l .indent) j h, forestAt)
+
+pub forest-passed : (j : ℕ) (l : Line) (ls : List Line) → j < l .indent → forestAt j (l ∷ ls) ≡ forestAt j ls
+unfolding forestAt
+forest-passed j l ls h = rw (ne-eqb (l .indent) j (λ (e : l .indent ≡ j). omega arith), le-ltb (l .indent) j (omega arith), forestAt)
+
+-- ---- what is left of an accepted and stepped list
+
+pub next-accepted : (i : ℕ) (l : Line) (ls : List Line) → T (accepted (some i) (l ∷ ls)) → (l .indent ≤ i + 1) × T (accepted (some (l .indent)) ls)
+unfolding accepted
+next-accepted i l ls t =
+    (steep i (l .indent) (leb (l .indent) (i + 1)) refl (and-l (eqb (indentRefusal (some i) (l .indent)) 0) (accepted (some (l .indent)) ls) t), and-r (eqb (indentRefusal (some i) (l .indent)) 0) (accepted (some (l .indent)) ls) t)
+  where
+    steep : (b k : ℕ) (c : Bool) → leb k (b + 1) ≡ c → T (eqb (elim c as (λ _. ℕ) [ true ↦ 0 | false ↦ 16 ]) 0) → k ≤ b + 1
+    steep b k true e h = leb-true k (b + 1) e
+    steep b k false e h = absurd h
+
+next-stepped : (i : ℕ) (l : Line) (ls : List Line) → T (steppedAfter i (l ∷ ls)) → (i ≡ l .indent → ⊥) × T (steppedAfter (l .indent) ls)
+unfolding steppedAfter
+next-stepped i l ls t =
+    (apart (and-l (not (eqb i (l .indent))) (steppedAfter (l .indent) ls) t), and-r (not (eqb i (l .indent))) (steppedAfter (l .indent) ls) t)
+  where
+    apart : T (not (eqb i (l .indent))) → i ≡ l .indent → ⊥
+    apart h e = subst (λ (b : Bool). T (not b)) (eq-eqb i (l .indent) e) h
+
+pub first-accepted : (l : Line) (ls : List Line) → T (accepted none (l ∷ ls)) → (l .indent ≡ 0) × T (accepted (some (l .indent)) ls)
+unfolding accepted
+first-accepted l ls t =
+    (unindented (l .indent) (eqb (l .indent) 0) refl (and-l (eqb (indentRefusal none (l .indent)) 0) (accepted (some (l .indent)) ls) t), and-r (eqb (indentRefusal none (l .indent)) 0) (accepted (some (l .indent)) ls) t)
+  where
+    unindented : (k : ℕ) (c : Bool) → eqb k 0 ≡ c → T (eqb (elim c as (λ _. ℕ) [ true ↦ 0 | false ↦ 15 ]) 0) → k ≡ 0
+    unindented k true e h = eqb-true k 0 e
+    unindented k false e h = absurd h
+
+smaller : (k i : ℕ) → k < suc i → (i ≡ k → ⊥) → k < i
+smaller k i h n = omega arith
+
+one-less : (i k : ℕ) → k < i → i - k ≡ suc (i - suc k)
+one-less i k h = omega arith
+
+outdent-none : (i k : ℕ) → i ≤ k → outdent (some i) k ≡ []
+unfolding outdent
+outdent-none i k h = rw (le-ltb k i h, outdent)
+
+outdent-some : (i k : ℕ) → k < i → outdent (some i) k ≡ Command.Stack (i - k) ∷ []
+unfolding outdent
+outdent-some i k h = rw (lt-ltb k i h, outdent)
+
+module _ (A : Type 0) (works : Operator → A → A) (plus : A → A → A) (nothing : A) where
+  abbrev total : Forest → A
+  total f = sum A works plus nothing f
+
+  abbrev aside : ℕ → A → Entry A
+  aside n v = record { left = n; saved = v }
+
+  abbrev st : A → List (Entry A) → State A
+  st v s = record { value = v; stack = s }
+
+  -- the machine, run from the last command to the first
+  upward : List Command → State A
+  upward [] = st nothing []
+  upward (c ∷ cs) = step A works plus nothing c (upward cs)
+
+  upward-run : (cs ds : List Command) → run A works plus nothing (reverseAux cs ds) (st nothing []) ≡ run A works plus nothing ds (upward cs)
+  unfolding upward run
+  upward-run [] ds = refl
+  upward-run (c ∷ cs) ds = upward-run cs (c ∷ ds)
+
+  -- ---- what is set aside
+
+  -- for the levels below j: a level with a forest has an entry, and `gap` counts the levels since the last one
+  pendOf : ℕ → Forest → List (Entry A) → List (Entry A) → List (Entry A)
+  pendOf gap bare skipped taken = skipped
+  pendOf gap (grown op kids later) skipped taken = aside gap (total (grown op kids later)) ∷ taken
+
+  pend : ℕ → ℕ → List Line → List (Entry A)
+  unfolding pendOf
+  pend zero gap ls = []
+  pend (suc j) gap ls = pendOf gap (forestAt j ls) (pend j (suc gap) ls) (pend j 0 ls)
+
+  pend-none : (j gap : ℕ) → pend j gap [] ≡ []
+  unfolding pend forestAt
+  pend-none zero gap = refl
+  pend-none (suc j) gap = pend-none j (suc gap)
+
+  -- a line that is deeper changes nothing below it
+  pend-passed : (j gap : ℕ) (l : Line) (ls : List Line) → j ≤ l .indent → pend j gap (l ∷ ls) ≡ pend j gap ls
+  unfolding pend
+  pend-passed zero gap l ls h = refl
+  pend-passed (suc j) gap l ls h =
+      rw (forest-passed j l ls h)
+      (ap₂ (pendOf gap (forestAt j ls)) (pend-passed j (suc gap) l ls (omega arith)) (pend-passed j 0 l ls (omega arith)))
+
+  pend-same : (gap : ℕ) (l : Line) (ls : List Line)
+      → pend (suc (l .indent)) gap (l ∷ ls) ≡ aside gap (total (forestAt (l .indent) (l ∷ ls))) ∷ pend (l .indent) 0 (l ∷ ls)
+  unfolding pend pendOf
+  pend-same gap l ls = rw (forest-same l ls)
+
+  -- above a line's own level there is nothing but gaps down to it
+  pend-down : (i gap : ℕ) (l : Line) (ls : List Line) → l .indent < i
+      → pend i gap (l ∷ ls) ≡ aside (gap + (i - suc (l .indent))) (total (forestAt (l .indent) (l ∷ ls))) ∷ pend (l .indent) 0 (l ∷ ls)
+  unfolding pend pendOf
+  pend-down zero gap l ls h = absurd (not-suc-le-zero h)
+  pend-down (suc j) gap l ls h =
+      elim (eq-or-lt-of-le (le-of-suc-le-suc h)) [
+        | inl e ↦
+            subst (λ (n : ℕ). pend (suc n) gap (l ∷ ls) ≡ aside (gap + (suc n - suc (l .indent))) (total (forestAt (l .indent) (l ∷ ls))) ∷ pend (l .indent) 0 (l ∷ ls)) e
+            (pend-same gap l ls ∙ ap (λ (n : ℕ). aside n (total (forestAt (l .indent) (l ∷ ls))) ∷ pend (l .indent) 0 (l ∷ ls)) (omega arith))
+        | inr g ↦
+            rw (forest-ended j l ls g)
+            (pend-down j (suc gap) l ls g ∙ ap (λ (n : ℕ). aside n (total (forestAt (l .indent) (l ∷ ls))) ∷ pend (l .indent) 0 (l ∷ ls)) (omega arith))
+      ]
+
+  -- ---- an operator and the stack
+
+  lose-of : (w : A) (j gap : ℕ) (ls : List Line) (f : Forest) → settled A plus w (pend j (suc (suc gap)) ls) ≡ st w (pend j (suc gap) ls)
+      → settled A plus w (pendOf (suc gap) f (pend j (suc (suc gap)) ls) (pend j 0 ls)) ≡ st w (pendOf gap f (pend j (suc gap) ls) (pend j 0 ls))
+  unfolding pendOf settled
+  lose-of w j gap ls bare h = h
+  lose-of w j gap ls (grown op kids later) h = refl
+
+  -- at a level without later siblings the top entry loses one
+  lose : (w : A) (j gap : ℕ) (ls : List Line) → settled A plus w (pend j (suc gap) ls) ≡ st w (pend j gap ls)
+  unfolding pend settled
+  lose w zero gap ls = refl
+  lose w (suc j) gap ls = lose-of w j gap ls (forestAt j ls) (lose w j (suc gap) ls)
+
+  -- at a level with later siblings they are the top entry, and are added
+  meet : (w : A) (i : ℕ) (ls : List Line) (f : Forest)
+      → settled A plus w (pendOf 0 f (pend i 1 ls) (pend i 0 ls)) ≡ st (withLater A works plus nothing w f (total f)) (pend i 0 ls)
+  unfolding pendOf settled withLater
+  meet w i ls bare = lose w i 0 ls
+  meet w i ls (grown op kids later) = refl
+
+  -- ---- from line to line
+
+  -- the value and the stack that the tree says, once the lines from l on are run
+  Tree : Line → List Line → Type 0
+  Tree l ls =
+      upward (Command.Operator (l .op) ∷ downward (some (l .indent)) ls)
+      ≡ st (total (forestAt (l .indent) (l ∷ ls))) (pend (l .indent) 0 (l ∷ ls))
+
+  -- the same, from the lines after l
+  says : (l : Line) (ls : List Line) (w : A) → w ≡ withLater A works plus nothing (works (l .op) (total (forestAt (suc (l .indent)) ls))) (forestAt (l .indent) ls) (total (forestAt (l .indent) ls))
+      → st w (pend (l .indent) 0 ls) ≡ st (total (forestAt (l .indent) (l ∷ ls))) (pend (l .indent) 0 (l ∷ ls))
+  unfolding sum
+  says l ls w e = rw (forest-same l ls, pend-passed (l .indent) 0 l ls (le-refl (l .indent))) (ap (λ (v : A). st v (pend (l .indent) 0 ls)) e)
+
+  -- the last line
+  last-line : (l : Line) → Tree l []
+  unfolding Tree upward step settled downward forestAt sum withLater
+  last-line l = ap (st (works (l .op) nothing)) (sym (pend-none (l .indent) 0)) ∙ says l [] (works (l .op) nothing) refl
+
+  -- a line followed by its first child: the child's forest is the value, the later siblings are the top of the stack
+  above-child : (l m : Line) (ms : List Line) → m .indent ≡ suc (l .indent) → Tree m ms → Tree l (m ∷ ms)
+  unfolding Tree upward step downward pend
+  above-child l m ms e h =
+      let i = l .indent in
+      let S = m ∷ ms in
+      ap (λ (os : List Command). step A works plus nothing (Command.Operator (l .op)) (upward (os ++ (Command.Operator (m .op) ∷ downward (some (m .indent)) ms)))) (outdent-none i (m .indent) (omega arith))
+      ∙ ap (step A works plus nothing (Command.Operator (l .op))) h
+      ∙ ap (λ (n : ℕ). settled A plus (works (l .op) (total (forestAt n S))) (pend n 0 S)) e
+      ∙ meet (works (l .op) (total (forestAt (suc i) S))) i S (forestAt i S)
+      ∙ says l S _ refl
+
+  -- a line before one of smaller indent has neither children nor later siblings
+  alone : (l m : Line) (ms : List Line) → m .indent < l .indent
+      → works (l .op) nothing ≡ withLater A works plus nothing (works (l .op) (total (forestAt (suc (l .indent)) (m ∷ ms)))) (forestAt (l .indent) (m ∷ ms)) (total (forestAt (l .indent) (m ∷ ms)))
+  unfolding withLater sum
+  alone l m ms h = rw (forest-ended (suc (l .indent)) m ms (omega arith), forest-ended (l .indent) m ms h)
+
+  -- a line followed by one of smaller indent: it has neither children nor later siblings, and that line's forest is set aside
+  above-outdent : (l m : Line) (ms : List Line) → m .indent < l .indent → Tree m ms → Tree l (m ∷ ms)
+  unfolding Tree upward step settled topped downward
+  above-outdent l m ms h t =
+      let i = l .indent in
+      let k = m .indent in
+      let S = m ∷ ms in
+      let v = total (forestAt k S) in
+      let w = works (l .op) nothing in
+      ap (λ (os : List Command). step A works plus nothing (Command.Operator (l .op)) (upward (os ++ (Command.Operator (m .op) ∷ downward (some k) ms)))) (outdent-some i k h)
+      ∙ ap (λ (s : State A). step A works plus nothing (Command.Operator (l .op)) (step A works plus nothing (Command.Stack (i - k)) s)) t
+      ∙ ap (λ (n : ℕ). topped A plus w n v (pend k 0 S)) (one-less i k h)
+      ∙ ap (st w) (sym (pend-down i 0 m ms h ∙ ap (λ (n : ℕ). aside n v ∷ pend k 0 S) (zero-add (i - suc k))))
+      ∙ says l S w (alone l m ms h)
+
+  -- every line, from the last one up
+  descent : (l : Line) (ls : List Line) → T (accepted (some (l .indent)) ls) → T (steppedAfter (l .indent) ls) → Tree l ls
+  descent l [] a s = last-line l
+  descent l (m ∷ ms) a s =
+      let p = next-accepted (l .indent) m ms a in
+      let q = next-stepped (l .indent) m ms s in
+      let t = descent m ms (p .1) (q .1) in
+      elim (eq-or-lt-of-le (subst (λ (n : ℕ). m .indent ≤ n) (add-one (l .indent)) (p .0)))
+      [ inl e ↦ above-child l m ms e t | inr g ↦ above-outdent l m ms (smaller (m .indent) (l .indent) g (q .0)) t ]
+
+  pub tree-value : (ls : List Line) → T (accepted none ls) → T (stepped ls) → machine A works plus nothing (commandsOf ls) ≡ total (treeOf ls)
+  unfolding Tree machine run commandsOf downward outdent treeOf forestAt sum accepted stepped
+  tree-value [] a s = refl
+  tree-value (l ∷ ls) a s =
+      let z = first-accepted l ls a in
+      ap (λ (x : State A). x .value) (upward-run (Command.Operator (l .op) ∷ downward (some (l .indent)) ls) [])
+      ∙ ap (λ (x : State A). x .value) (descent l ls (z .1) s)
+      ∙ ap (λ (n : ℕ). total (forestAt n (l ∷ ls))) (z .0)

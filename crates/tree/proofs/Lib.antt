@@ -1,0 +1,6 @@
+pub mod Accepted
+pub mod CommandCount
+pub mod Demand3
+pub mod Descent
+pub mod Examples
+pub mod TreeLines
