@@ -203,12 +203,15 @@ module _ (n d : ℕ) (p : 0 < d) (h : n ≤ 65535 * d) where
 
 -- what is left of the sum
 abbrev pub near : Float → ℕ
-near x = toUnsigned 32 (add binary32 x twoTo23) - 8388608
+near x = toUnsigned 32 (add binary32 x twoTo23) % 8388608
+
+-- a number from 2^23 to below 2^24 without 2^23
+without : (q : ℕ) → 8388608 ≤ q → q < 16777216 → q % 8388608 + 8388608 ≡ q
+without q h l = omega arith
 
 -- the casts lose nothing, and what is left is one more than the whole part exactly where it is larger than x
 pub record Near (x : Float) : Type 0 where
   pub whole : T (inUnsigned binary32 32 (add binary32 x twoTo23))
-  pub enough : 8388608 ≤ toUnsigned 32 (add binary32 x twoTo23)
   pub small : T (inFloat binary32 (pos (near x)))
   pub larger : lt x (ofInt binary32 (pos (near x))) ≡ true → near x ≡ suc (toUnsigned 64 x)
   pub not-larger : lt x (ofInt binary32 (pos (near x))) ≡ false → near x ≡ toUnsigned 64 x
@@ -237,11 +240,11 @@ near-is x above under =
     let w : n / d < 65536 = div-lt-iff-lt-mul p .1 (under-limit n d 65536 p (lit< tt) i) in
     let b = unsigned-back binary32 32 q (le→leb q (2 ^ 24) (omega arith)) (omega arith) in
     let s : toUnsigned 32 (add binary32 x twoTo23) ≡ q = ap (toUnsigned 32) e ∙ b .1 in
+    let r : near x + 8388608 ≡ q = ap (λ (k : ℕ). k % 8388608 + 8388608) s ∙ without q (omega arith) (omega arith) in
     let v = round-whole binary32 false (near x) (omega arith) in
     let c = cut-is x h in
     record {
       whole = subst (λ (y : Float). T (inUnsigned binary32 32 y)) (sym e) (b .0);
-      enough = omega arith;
       small = le→leb (near x) (2 ^ 24) (omega arith);
       larger = λ t. omega (arith, one-more n d (near x) p (omega arith) (less x (ofInt binary32 (pos (near x))) (near x) h v t));
       not-larger = λ t. omega (arith, no-more n d (near x) p (omega arith) (not-less x (ofInt binary32 (pos (near x))) (near x) h v t));

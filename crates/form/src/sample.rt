@@ -23,12 +23,12 @@ fn clamped(x: f32) -> f32
 
 // The whole part of a float from 0 to 65,535. Added to 2^23, where the floats are the whole numbers,
 // it is rounded to one of the two whole numbers beside it; where that is the larger one, it is one
-// too many.
+// too many. A remainder takes 2^23 off again, since it tells the compiler how small the number is.
 fn whole_part(x: f32) -> u32
     requires { ⌜ T (le plusZero x) ⌝ ∗ ⌜ T (le x (fin false 65535 (pos 0))) ⌝ }
     ensures { λ r. ⌜ r ≡ toUnsigned 64 x ⌝ }
 {
-    let near = (x + 8388608.0) as u32 - 8388608;
+    let near = (x + 8388608.0) as u32 % 8388608;
     if x < near as f32 { near - 1 } else { near }
 }
 

@@ -13,10 +13,6 @@ float-to-int-near : tie.Need-float-to-int-near
 unfolding ofBits
 float-to-int-near c = is-near c .whole
 
-sub-near : tie.Need-sub-near
-unfolding ofBits
-sub-near c = is-near c .enough
-
 int-to-float-if1 : tie.Need-int-to-float-if1
 unfolding ofBits
 int-to-float-if1 c = is-near (c .before) .small
@@ -34,4 +30,4 @@ unfolding ofBits
 returns-2 c = is-near (c .before .before) .not-larger (c .if1 .left)
 
 pub whole-part-spec : {M : Type 1} → statement M
-whole-part-spec = tie.close (tie.spec float-to-int-near sub-near int-to-float-if1 sub-result returns returns-2)
+whole-part-spec = tie.close (tie.spec float-to-int-near int-to-float-if1 sub-result returns returns-2)
