@@ -181,7 +181,7 @@ impl Instrument {
         ensures values { λ _. ⌜ now (out .exit) ≡ filledBy (now (table .entry)) self amplitude f d rate first added (now (out .entry)) ⌝ }
     {
         let room = room_from(first, out.len());
-        if room <= 16 {
+        if room <= 96 {
             let mut saved = blank_few();
             let mut values = [0.0f32; 16];
             let mut times = [0.0f32; 16];
