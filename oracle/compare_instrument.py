@@ -1,7 +1,7 @@
 """Compares the proved instrument, by the program `ask_instrument`, with the Rust's: values at many times, and stretches of samples.
 
 The Rust has document 01's sine. oracle/instrument_cases.py has what is asked, and oracle/instruments.rs what the Rust answers. The two
-worked examples of crates/instrument/proofs/Examples.antt are held against the Rust too.
+worked examples of crates/tree/proofs/Examples.antt are held against the Rust too.
 """
 
 import re
@@ -19,7 +19,7 @@ from instrument_cases import EIGHTH, UNIT, Instrument, Stack
 COUNT = 12
 FLOORS = {"instruments": 10_000, "answers": 510_000, "values": 600_000}
 TOLD = ", and both worked examples"
-EXAMPLES = ROOT / "crates" / "instrument" / "proofs" / "Examples.antt"
+EXAMPLES = ROOT / "crates" / "tree" / "proofs" / "Examples.antt"
 ASK, RUST, NUMBERS = proved("ask_instrument"), rust("ruled", "instruments"), rust("ruled", "numbers")
 
 
