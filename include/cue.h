@@ -7,12 +7,15 @@
  *   source, source_len   the text: so many bytes, of any value; no byte ends it, so a C string goes with its strlen.
  *   mode                 how its numbers are read: CUE_PLAIN, or CUE_STRICT, which refuses a number or a key with a tail, as `0,7`. Every number but
  *                        CUE_PLAIN stands for strict.
+ *   riff_size            in cue_wav and cue_header, which number the header's RIFF size is: CUE_PUBLISHED_SIZE, 36 + 2n for n samples, which counts
+ *                        every byte behind it as the published WAVE form does, or CUE_OLD_SIZE, 32 + 2n, which files had before. Every number but
+ *                        CUE_OLD_SIZE stands for the published one. Nothing else differs, neither the other bytes nor the answer nor a refusal.
  *   buffer, buffer_len   where bytes are written, in the calls that write: so many bytes.
  *   refusal              where the number of a refusal goes: 0 exactly where nothing was refused, else 1 to 32 (see below).
  *   line                 where the line of a refusal goes: counted from 1, or 0 where the refusal has none; 0 without a refusal.
- * and gives its answer for every text, every mode, every length, every start and every place. *refusal and *line are written by every call, whatever
+ * and gives its answer for every text, every mode, every size, every length, every start and every place. *refusal and *line are written by every call, whatever
  * stood there. After a refusal no byte of the buffer is changed; else only the bytes that the call names are.
- * The answer depends on nothing but the arguments: the bytes of the text, the mode, the lengths, start and place. Nothing is kept from one call to
+ * The answer depends on nothing but the arguments: the bytes of the text, the mode, the size, the lengths, start and place. Nothing is kept from one call to
  * the next, nothing is allocated and no file is touched, so several threads may call at once, each with its own buffer, refusal and line.
  *
  * What a caller owes, since C cannot show it: source points to source_len bytes that may be read, buffer to buffer_len bytes that may be
@@ -41,14 +44,14 @@
  *     uint32_t refusal;
  *     size_t line;
  *     uint8_t none;
- *     size_t size = cue_wav(source, strlen(text), CUE_STRICT, &none, 0, &refusal, &line);
+ *     size_t size = cue_wav(source, strlen(text), CUE_STRICT, CUE_PUBLISHED_SIZE, &none, 0, &refusal, &line);
  *     if (size == 0) {
  *       printf("refused %u %zu\n", (unsigned)refusal, line);
  *       return 1;
  *     }
  *     uint8_t *file = malloc(size);
  *     if (file == NULL) return 1;
- *     cue_wav(source, strlen(text), CUE_STRICT, file, size, &refusal, &line);
+ *     cue_wav(source, strlen(text), CUE_STRICT, CUE_PUBLISHED_SIZE, file, size, &refusal, &line);
  *     fwrite(file, 1, size, stdout);
  *     free(file);
  *     return 0;
@@ -73,6 +76,9 @@ extern "C" {
 /* The modes. */
 enum { CUE_PLAIN = 0, CUE_STRICT = 1 };
 
+/* The RIFF sizes. */
+enum { CUE_PUBLISHED_SIZE = 0, CUE_OLD_SIZE = 1 };
+
 /* How many samples the sheet has: at most 2,000,000,000, and 0 also for a sheet without notes.
  * A text that is refused: 0, its number and its line. */
 size_t cue_samples(const uint8_t *source, size_t source_len, uint32_t mode, uint32_t *refusal, size_t *line);
@@ -81,21 +87,21 @@ size_t cue_samples(const uint8_t *source, size_t source_len, uint32_t mode, uint
  * A buffer of fewer bytes, none among them: the size all the same, with refusal 30 and line 0, and nothing is written; so a call with an
  * empty buffer tells how many bytes are needed. Bytes of a longer buffer behind the file keep their values.
  * A text that is refused: 0, its number and its line, and nothing is written. */
-size_t cue_wav(const uint8_t *source, size_t source_len, uint32_t mode, uint8_t *buffer, size_t buffer_len, uint32_t *refusal,
-               size_t *line);
+size_t cue_wav(const uint8_t *source, size_t source_len, uint32_t mode, uint32_t riff_size, uint8_t *buffer, size_t buffer_len,
+               uint32_t *refusal, size_t *line);
 
-/* Writes the header of the sheet's file, the first 44 bytes of what cue_wav writes, to the buffer's start, and answers 44.
+/* Writes the header of the sheet's file, the first 44 bytes of what cue_wav writes with the same RIFF size, to the buffer's start, and answers 44.
  * A buffer of fewer bytes: 0, refusal 30, line 0, and nothing is written. Bytes behind the header keep their values.
  * A text that is refused: 0, its number and its line, and nothing is written. */
-size_t cue_header(const uint8_t *source, size_t source_len, uint32_t mode, uint8_t *buffer, size_t buffer_len, uint32_t *refusal,
-                  size_t *line);
+size_t cue_header(const uint8_t *source, size_t source_len, uint32_t mode, uint32_t riff_size, uint8_t *buffer, size_t buffer_len,
+                  uint32_t *refusal, size_t *line);
 
 /* Writes samples, from number `start` of the sheet on (the first is 0), as two bytes each from place `place` of the buffer on: those that exist and
  * fit whole. Answers how many samples these are. Bytes before them, and behind them, keep their values.
  * start past the number of samples: 0, refusal 29, line 0. start at that number, and place not past buffer_len: 0 and no refusal.
  * place past buffer_len, or a sample exists and under two bytes are left: 0, refusal 30, line 0. Where both 29 and 30 hold it is 29.
  * A text that is refused: 0, its number and its line. After every refusal nothing is written.
- * The header and then windows, each from where the last one ended, give the bytes of cue_wav; each call reads the text anew. */
+ * The header and then windows, each from where the last one ended, give the bytes of cue_wav with the same RIFF size; each call reads the text anew. */
 size_t cue_window(const uint8_t *source, size_t source_len, uint32_t mode, size_t start, uint8_t *buffer, size_t buffer_len, size_t place,
                   uint32_t *refusal, size_t *line);
 

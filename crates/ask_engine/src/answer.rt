@@ -8,6 +8,7 @@ use engine::file::write_header;
 use evaluator::window::window;
 use fields::float::to_bits;
 use fields::word::put;
+use form::size::size_of;
 use libc::STDOUT_FILENO;
 use lines::names::least;
 use parser::reader::read;
@@ -62,7 +63,7 @@ fn samples(sheet: Sheet, asked: Request) -> bool {
 // The header, or a window of samples as bytes.
 fn written(sheet: Sheet, asked: Request, buffer: &mut [u8]) -> Answer {
     if asked.kind == 1 {
-        return write_header(sheet, buffer, 44100);
+        return write_header(sheet, buffer, size_of(asked.start), 44100);
     }
     write_window(
         sheet,

@@ -4,6 +4,7 @@ use mathlib.Core.List.{List}
 use Prim.Native.Nat.{ℕ}
 use lib.Dec.{eqb}
 use lib.Ieee.{Float}
+use Rattle.form.specs.Form.{sizeNumbered}
 use Rattle.wave.specs.File.{countIn, samplesIn, Told, headerTold, headerIn, fileTold, fileIn}
 use Rattle.ask_wave.specs.declared.request.Request.{Request}
 use Rattle.ask_wave.specs.declared.answer.Answer.{Answer}
@@ -27,10 +28,10 @@ answerTo r samples room =
 unfoldable pub bufferTo : Request → List Float → List ℕ → List ℕ
 bufferTo r samples buffer =
     elim (eqb (r .kind) 0) [
-      | true ↦ fileIn (r .rate) samples buffer
+      | true ↦ fileIn (sizeNumbered (r .place)) (r .rate) samples buffer
       | false ↦
           elim (eqb (r .kind) 1) [
             | true ↦ samplesIn buffer (r .place) samples
-            | false ↦ headerIn (r .place) (r .rate) (r .count) buffer
+            | false ↦ headerIn (sizeNumbered (r .place)) (r .rate) (r .count) buffer
           ]
     ]

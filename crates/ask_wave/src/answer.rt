@@ -5,6 +5,7 @@ ghost use lib.ListN.{length};
 ghost use Rattle.ask_wave.specs.Answer.{printed, answerTo, bufferTo};
 ghost use Rattle.wave.specs.File.{told};
 use crate::request::Request;
+use form::size::size_of;
 use wave::file::Written;
 use wave::file::write_file;
 use wave::file::write_header;
@@ -36,7 +37,7 @@ pub fn to(r: Request, samples: &[f32], buffer: &mut [u8]) -> Answer
     ensures { λ _. ⌜ now (buffer .exit) ≡ bufferTo r (now (samples .entry)) (now (buffer .entry)) ⌝ }
 {
     if r.kind == 0 {
-        return of_written(write_file(buffer, samples, r.rate));
+        return of_written(write_file(buffer, samples, size_of(r.place), r.rate));
     }
     if r.kind == 1 {
         let n = write_samples(buffer, r.place as usize, samples);
@@ -45,5 +46,5 @@ pub fn to(r: Request, samples: &[f32], buffer: &mut [u8]) -> Answer
             count: n as u64,
         };
     }
-    of_written(write_header(buffer, r.place, r.rate, r.count))
+    of_written(write_header(buffer, size_of(r.place), r.rate, r.count))
 }

@@ -9,7 +9,7 @@ use crate::number::least;
 use fields::word::word;
 
 // Kind 0 asks for the file of the samples, 1 for the samples at a place of the buffer, any other for the
-// header alone. The buffer has `room` bytes. `place` is the place, or the header's RIFF size; `count` is how
+// header alone. The buffer has `room` bytes. `place` is the place, or the number of the RIFF size; `count` is how
 // many samples follow, or the header's number of samples.
 pub struct Request {
     pub kind: u32,

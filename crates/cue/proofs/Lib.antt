@@ -1,3 +1,4 @@
 pub mod Examples
 pub mod Pieces
 pub mod Readings
+pub mod Sizes

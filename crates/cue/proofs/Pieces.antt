@@ -8,7 +8,8 @@ use Prim.Native.Nat.{ℕ, suc, _+_, _-_, _*_, _/_, _^_, _≤_, _<_, min}
 use native.Mathlib.Omega.{arith}
 use lib.ListN.{length, take, drop, length-append, length-drop}
 use lib.Seq.{take-at, take-add, take-length, length-take-le}
-use Rattle.form.specs.Form.{header, oldSize}
+use Rattle.form.specs.declared.size.Size.{Size}
+use Rattle.form.specs.Form.{header}
 use Rattle.form.specs.Sample.{bytesOf}
 use Rattle.wave.specs.File.{put, roomAt}
 use Rattle.form.proofs.Published.{header-length}
@@ -21,7 +22,8 @@ use Rattle.mixing.specs.Placing.{placed}
 use Rattle.engine.specs.Stream.{fileOf, nextOf, nextIn}
 use Rattle.windows.proofs.Windows.{sample-bytes}
 use Rattle.engine.proofs.Files.{written-count}
-use Rattle.engine.proofs.HandedOn.{file-passing, next-samples, next-header-there}
+use Rattle.engine.proofs.Counted.{next-samples, next-header-there}
+use Rattle.engine.proofs.HandedOn.{file-passing}
 use Rattle.cue.specs.Handing.{Next, Moved, Handed, none, more, written}
 use Rattle.cue.specs.declared.output.Output.{Output}
 
@@ -56,36 +58,36 @@ sample-step whole samples at n i m w l h d e =
 
 -- ---- a file
 
-module _ (s : Sheet) (e : isSheet 44100 s ≡ true) where
-  pub file-length : length (fileOf 44100 s) ≡ 44 + 2 * lengthOf 44100 s
+module _ (size : Size) (s : Sheet) (e : isSheet 44100 s ≡ true) where
+  pub file-length : length (fileOf size 44100 s) ≡ 44 + 2 * lengthOf 44100 s
   file-length =
-      ap length (file-passing 44100 s e)
-      ∙ length-append (header (oldSize (lengthOf 44100 s)) 44100 (lengthOf 44100 s)) (bytesOf (samplesFrom (placed 44100 s) 0 (lengthOf 44100 s)))
-      ∙ omega (arith, header-length (oldSize (lengthOf 44100 s)) 44100 (lengthOf 44100 s), sample-bytes (placed 44100 s) 0 (lengthOf 44100 s))
+      ap length (file-passing size 44100 s e)
+      ∙ length-append (header size 44100 (lengthOf 44100 s)) (bytesOf (samplesFrom (placed 44100 s) 0 (lengthOf 44100 s)))
+      ∙ omega (arith, header-length size 44100 (lengthOf 44100 s), sample-bytes (placed 44100 s) 0 (lengthOf 44100 s))
 
-  pub file-most : length (fileOf 44100 s) ≤ 4000000044
+  pub file-most : length (fileOf size 44100 s) ≤ 4000000044
   file-most = omega (arith, file-length, passing 44100 s e .length)
 
   module _ (buffer : List ℕ) (large : length buffer ≡ 65536) (at : ℕ) where
-    pub piece-next : Begins (length (fileOf 44100 s)) at → Piece (length (fileOf 44100 s)) at (nextOf 44100 s (length buffer) at)
+    pub piece-next : Begins (length (fileOf size 44100 s)) at → Piece (length (fileOf size 44100 s)) at (nextOf 44100 s (length buffer) at)
     unfolding roomAt
     piece-next b =
         ⊎-elim
         (λ (z : at ≡ 0).
-        header-step (length (fileOf 44100 s)) (lengthOf 44100 s) at _ file-length z
+        header-step (length (fileOf size 44100 s)) (lengthOf 44100 s) at _ file-length z
         (ap (nextOf 44100 s (length buffer)) z ∙ next-header-there 44100 s buffer e (omega arith)))
         (λ (w : (i : ℕ) × (at ≡ 44 + 2 * i)).
-        sample-step (length (fileOf 44100 s)) (lengthOf 44100 s) at _ (w .0) _ file-length (b .inside) (w .1) (next-samples 44100 s buffer at (w .0) (w .1))
+        sample-step (length (fileOf size 44100 s)) (lengthOf 44100 s) at _ (w .0) _ file-length (b .inside) (w .1) (next-samples 44100 s buffer at (w .0) (w .1))
         (written-count 44100 s e (w .0) buffer 0 ∙ ap (λ (n : ℕ). min ((n - 0) / 2) (lengthOf 44100 s - w .0)) large))
         (b .sample)
 
     -- the buffer's front is the piece
-    pub piece-bytes : (n : ℕ) (later : List ℕ) → n ≡ nextOf 44100 s (length buffer) at → later ≡ nextIn 44100 s buffer at → at + n ≤ length (fileOf 44100 s)
-        → take n later ≡ take n (drop at (fileOf 44100 s))
+    pub piece-bytes : (n : ℕ) (later : List ℕ) → n ≡ nextOf 44100 s (length buffer) at → later ≡ nextIn size 44100 s buffer at → at + n ≤ length (fileOf size 44100 s)
+        → take n later ≡ take n (drop at (fileOf size 44100 s))
     unfolding nextIn put
     piece-bytes n later k l h =
-        let f = drop at (fileOf 44100 s) in
-        let long : n ≤ length f = omega (arith, length-drop at (fileOf 44100 s)) in
+        let f = drop at (fileOf size 44100 s) in
+        let long : n ≤ length f = omega (arith, length-drop at (fileOf size 44100 s)) in
         ap (take n) l
         ∙ ap (λ (j : ℕ). take n (put buffer 0 (take j f))) (sym k)
         ∙ take-at (take n f) (drop (0 + length (take n f)) buffer) n (length-take-le n f long)

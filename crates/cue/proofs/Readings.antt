@@ -5,6 +5,7 @@ use mathlib.Core.List.{List}
 use Prim.Native.Nat.{ℕ}
 use borrow.Author.Tests.{eq-eqb, ne-eqb}
 use Rattle.sheet.specs.Refusals.{Outcome, going, refused}
+use Rattle.form.specs.declared.size.Size.{Size}
 use Rattle.strict.specs.declared.mode.Mode.{Mode}
 use Rattle.handed.specs.Check.{isSheet}
 use Rattle.meaning.specs.declared.reading.Reading.{Reading}
@@ -28,24 +29,25 @@ module _ (mode : Mode) (source : List ℕ) where
     pub read-passes : isSheet 44100 (r .sheet) ≡ true
     read-passes = ap (λ (q : Reading). isSheet 44100 (q .sheet)) e ∙ sheet-passes
 
-    answered : answerOf mode source ≡ answerTo r
-    unfolding answerOf
-    answered = ap answerTo (sym e)
+    module _ (size : Size) where
+      answered : answerOf mode size source ≡ answerTo size r
+      unfolding answerOf
+      answered = ap (answerTo size) (sym e)
 
-    pub answer-line : (r .refusal ≡ 0 → ⊥) → answerOf mode source ≡ refusedLine (r .refusal) (r .line)
-    unfolding answerTo
-    answer-line h = answered ∙ rw (ne-eqb (r .refusal) 0 h, answerTo)
+      pub answer-line : (r .refusal ≡ 0 → ⊥) → answerOf mode size source ≡ refusedLine (r .refusal) (r .line)
+      unfolding answerTo
+      answer-line h = answered ∙ rw (ne-eqb (r .refusal) 0 h, answerTo)
 
-    pub answer-file : r .refusal ≡ 0 → answerOf mode source ≡ fileOf 44100 (r .sheet)
-    unfolding answerTo
-    answer-file h = answered ∙ rw (eq-eqb (r .refusal) 0 h, answerTo)
+      pub answer-file : r .refusal ≡ 0 → answerOf mode size source ≡ fileOf size 44100 (r .sheet)
+      unfolding answerTo
+      answer-file h = answered ∙ rw (eq-eqb (r .refusal) 0 h, answerTo)
 
   -- ---- the answer by what has come of the reading
 
-  pub accepted-answer : (r : Read) → sheetRead mode 44100 source ≡ going r → answerOf mode source ≡ fileOf 44100 (sheetOf (r .parts) (r .instruments))
+  pub accepted-answer : (size : Size) (r : Read) → sheetRead mode 44100 source ≡ going r → answerOf mode size source ≡ fileOf size 44100 (sheetOf (r .parts) (r .instruments))
   unfolding answerOf answerTo readingOf laidOut
-  accepted-answer r e = ap (λ (o : Outcome Read). answerTo (laidOut o)) e
+  accepted-answer size r e = ap (λ (o : Outcome Read). answerTo size (laidOut o)) e
 
-  pub refused-answer : (n l : ℕ) → sheetRead mode 44100 source ≡ refused n l → (n ≡ 0 → ⊥) → answerOf mode source ≡ refusedLine n l
+  pub refused-answer : (size : Size) (n l : ℕ) → sheetRead mode 44100 source ≡ refused n l → (n ≡ 0 → ⊥) → answerOf mode size source ≡ refusedLine n l
   unfolding answerOf answerTo readingOf laidOut
-  refused-answer n l e h = ap (λ (o : Outcome Read). answerTo (laidOut o)) e ∙ rw (ne-eqb n 0 h, answerTo)
+  refused-answer size n l e h = ap (λ (o : Outcome Read). answerTo size (laidOut o)) e ∙ rw (ne-eqb n 0 h, answerTo)

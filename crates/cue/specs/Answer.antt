@@ -4,6 +4,7 @@ use mathlib.Core.Bool.{true, false}
 use mathlib.Core.List.{List}
 use Prim.Native.Nat.{ℕ}
 use lib.Dec.{eqb}
+use Rattle.form.specs.declared.size.Size.{Size}
 use Rattle.strict.specs.declared.mode.Mode.{Mode}
 use Rattle.refusal.specs.Line.{refusedLine}
 use Rattle.meaning.specs.declared.reading.Reading.{Reading}
@@ -11,11 +12,11 @@ use Rattle.meaning.specs.Layout.{readingOf}
 use Rattle.engine.specs.Stream.{fileOf}
 
 -- a sheet's file, or the line of its refusal
-unfoldable pub answerTo : Reading → List ℕ
+unfoldable pub answerTo : Size → Reading → List ℕ
 unfolding fileOf refusedLine
-answerTo r = elim (eqb (r .refusal) 0) [ true ↦ fileOf 44100 (r .sheet) | false ↦ refusedLine (r .refusal) (r .line) ]
+answerTo size r = elim (eqb (r .refusal) 0) [ true ↦ fileOf size 44100 (r .sheet) | false ↦ refusedLine (r .refusal) (r .line) ]
 
--- what the program writes in a mode, where a source stands on its standard input
-unfoldable pub answerOf : Mode → List ℕ → List ℕ
+-- what the program writes in a mode, with the RIFF size of a name, where a source stands on its standard input
+unfoldable pub answerOf : Mode → Size → List ℕ → List ℕ
 unfolding readingOf answerTo
-answerOf mode source = answerTo (readingOf mode 44100 source)
+answerOf mode size source = answerTo size (readingOf mode 44100 source)

@@ -1,5 +1,5 @@
-// The program `cue`: it reads a cue sheet from standard input, strictly where it is asked to, and writes its WAV file to standard output, or one line that
-// says why the sheet is refused. What a text means, and every byte of the file, is promised by the crates below; here their answers are handed on, each byte
+// The program `cue`: it reads a cue sheet from standard input, strictly where it is asked to, and writes its WAV file to standard output, with the old RIFF size
+// where it is asked to, or one line that says why the sheet is refused. What a text means, and every byte of the file, is promised by the crates below; here their answers are handed on, each byte
 // once and in order.
 
 mod output;
@@ -20,6 +20,7 @@ use crate::words::Asked;
 use crate::words::asked_by;
 use crate::words::tell_use;
 use engine::stream::next_bytes;
+use form::size::Size;
 use libc::STDIN_FILENO;
 use parser::reader::read;
 use refusal::line::refused_line;
@@ -40,6 +41,7 @@ fn read_first(bytes: &mut [u8], n: usize) -> usize
 // Hands `refused N L` and a line feed on: the refusal's number, and its line.
 fn hand_line(
     mode: Mode,
+    size: Size,
     source: &[u8],
     number: u32,
     line: usize,
@@ -47,68 +49,85 @@ fn hand_line(
     reached: &mut usize,
 ) -> Output
     requires fresh { ⌜ Fresh out (now reached) ⌝ }
-    requires answer { ⌜ answerOf mode (now source) ≡ refusedLine number line ⌝ }
-    ensures { λ r. ⌜ Whole (answerOf mode (now (source .entry))) r ⌝ }
+    requires answer { ⌜ answerOf mode size (now source) ≡ refusedLine number line ⌝ }
+    ensures { λ r. ⌜ Whole (answerOf mode size (now (source .entry))) r ⌝ }
 {
     let mut text = io::buffer();
     let n = refused_line(number, line, &mut text);
-    out.hand(mode, source, &text[..n], reached)
+    out.hand(mode, size, source, &text[..n], reached)
 }
 
 // The next bytes of a sheet's file, from place `at` on, at the buffer's start, and how many they are.
-fn next(sheet: Sheet, buffer: &mut [u8], at: usize) -> usize
+fn next(sheet: Sheet, buffer: &mut [u8], size: Size, at: usize) -> usize
     ensures within { λ r. ⌜ Counts r (now (buffer .exit)) ⌝ }
     ensures count { λ r. ⌜ r ≡ nextOf 44100 sheet (length (now (buffer .entry))) at ⌝ }
-    ensures bytes { λ _. ⌜ now (buffer .exit) ≡ nextIn 44100 sheet (now (buffer .entry)) at ⌝ }
+    ensures bytes { λ _. ⌜ now (buffer .exit) ≡ nextIn size 44100 sheet (now (buffer .entry)) at ⌝ }
 {
-    next_bytes(sheet, buffer, 44100, at)
+    next_bytes(sheet, buffer, size, 44100, at)
 }
 
 // Hands a sheet's file on, part by part, until all of it is handed on or nobody takes it any more.
-fn hand_file(mode: Mode, source: &[u8], sheet: Sheet, out: Output, reached: &mut usize) -> Output
+fn hand_file(
+    mode: Mode,
+    size: Size,
+    source: &[u8],
+    sheet: Sheet,
+    out: Output,
+    reached: &mut usize,
+) -> Output
     requires fresh { ⌜ Fresh out (now reached) ⌝ }
-    requires answer { ⌜ (answerOf mode (now source) ≡ fileOf 44100 sheet) × (isSheet 44100 sheet ≡ true) ⌝ }
-    ensures { λ r. ⌜ Whole (answerOf mode (now (source .entry))) r ⌝ }
+    requires answer { ⌜ (answerOf mode size (now source) ≡ fileOf size 44100 sheet) × (isSheet 44100 sheet ≡ true) ⌝ }
+    ensures { λ r. ⌜ Whole (answerOf mode size (now (source .entry))) r ⌝ }
 {
     let mut buffer = io::large_buffer();
     let mut later = out;
     while later.is_taking() {
-        let n = next(sheet, &mut buffer, later.place());
+        let n = next(sheet, &mut buffer, size, later.place());
         if n == 0 {
             return later;
         }
-        later = later.hand(mode, source, &buffer[..n], reached);
+        later = later.hand(mode, size, source, &buffer[..n], reached);
     }
     later
 }
 
-// Hands the whole answer to a source in a mode on: where the output takes all bytes, they are those of the answer, each once and in order.
-fn answer(mode: Mode, source: &[u8], out: Output, reached: &mut usize) -> Output
+// Hands the whole answer to a source in a mode, with the RIFF size of a name, on: where the output takes all bytes, they are those of the answer, each once and in order.
+fn answer(mode: Mode, size: Size, source: &[u8], out: Output, reached: &mut usize) -> Output
     requires { ⌜ Fresh out (now reached) ⌝ }
-    ensures { λ r. ⌜ Whole (answerOf mode (now (source .entry))) r ⌝ }
+    ensures { λ r. ⌜ Whole (answerOf mode size (now (source .entry))) r ⌝ }
 {
     let reading = read(source, mode);
     if reading.refusal != 0 {
-        return hand_line(mode, source, reading.refusal, reading.line, out, reached);
+        return hand_line(
+            mode,
+            size,
+            source,
+            reading.refusal,
+            reading.line,
+            out,
+            reached,
+        );
     }
-    hand_file(mode, source, reading.sheet, out, reached)
+    hand_file(mode, size, source, reading.sheet, out, reached)
 }
 
 // Reads standard input to its end, or to one byte more than a source may have, and hands the answer on.
-fn run(mode: Mode) {
+fn run(mode: Mode, size: Size) {
     let mut bytes = io::large_buffer();
     let n = read_first(&mut bytes, SOURCE);
     let mut reached: usize = 0;
-    answer(mode, &bytes[..n], Output::start(), &mut reached);
+    answer(mode, size, &bytes[..n], Output::start(), &mut reached);
 }
 
 fn main() {
     // A word that does not fit is none that the program understands, and counts as empty.
-    let mut word = [0u8; 16];
-    let n = os::arg(1, &mut word);
-    match asked_by(os::arg_count(), &word[..n]) {
-        Asked::Read(mode) => {
-            run(mode);
+    let mut first = [0u8; 16];
+    let mut second = [0u8; 16];
+    let m = os::arg(1, &mut first);
+    let n = os::arg(2, &mut second);
+    match asked_by(os::arg_count(), &first[..m], &second[..n]) {
+        Asked::Read(mode, size) => {
+            run(mode, size);
         }
         Asked::Unknown => {
             tell_use();

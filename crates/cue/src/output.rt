@@ -6,6 +6,7 @@ ghost use mathlib.Core.Bool.{true};
 ghost use lib.ListN.{length};
 ghost use Rattle.cue.specs.Answer.{answerOf};
 ghost use Rattle.cue.specs.Handing.{Takes, Next, Moved};
+use form::size::Size;
 use libc::STDOUT_FILENO;
 use strict::mode::Mode;
 
@@ -41,9 +42,16 @@ impl Output {
 
     // Hands the next piece of the answer on; nothing else in the program writes. An `Output` can be copied, and `reached` holds how far the program has
     // come, so that an older copy cannot hand its piece on again. That there is one `reached`, and nothing else changes it, tools/compare/program sees.
-    pub fn hand(self, mode: Mode, source: &[u8], part: &[u8], reached: &mut usize) -> Output
+    pub fn hand(
+        self,
+        mode: Mode,
+        size: Size,
+        source: &[u8],
+        part: &[u8],
+        reached: &mut usize,
+    ) -> Output
         requires taking { ⌜ Takes self (now reached) ⌝ }
-        requires next { ⌜ Next (answerOf mode (now source)) (self .at) (now part) ⌝ }
+        requires next { ⌜ Next (answerOf mode size (now source)) (self .at) (now part) ⌝ }
         ensures { λ r. ⌜ Moved self (length (now (part .entry))) r (now (reached .exit)) ⌝ }
     {
         let at = self.at;

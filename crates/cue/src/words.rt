@@ -1,34 +1,74 @@
 // The words that the program is started with.
 
 ghost use mathlib.Core.Path.{_≡_};
-ghost use Rattle.cue.specs.Words.{askedBy};
+ghost use Rattle.cue.specs.Words.{askedByOne, areBoth, askedByTwo, askedBy};
+use form::size::Size;
 use libc::STDERR_FILENO;
 use strict::mode::Mode;
 use text::characters::same_text;
 
-// What the program is asked: to read in a mode, or something that it does not understand.
+// What the program is asked: to read in a mode and write the RIFF size of a name, or something that it does not understand.
 pub enum Asked {
-    Read(Mode),
+    Read(Mode, Size),
     Unknown,
 }
 
-// What is asked by so many words, the program's own name among them, of which this one stands behind the name.
-pub fn asked_by(count: usize, word: &[u8]) -> Asked
-    ensures { λ r. ⌜ r ≡ askedBy count (now (word .entry)) ⌝ }
+// What is asked by one word.
+fn asked_by_one(word: &[u8]) -> Asked
+    ensures { λ r. ⌜ r ≡ askedByOne (now (word .entry)) ⌝ }
+{
+    if same_text(word, b"strict") {
+        return Asked::Read(Mode::Strict, Size::Published);
+    }
+    if same_text(word, b"old-size") {
+        return Asked::Read(Mode::Plain, Size::Old);
+    }
+    Asked::Unknown
+}
+
+// Whether the two words are both that there are, in this order.
+fn are_both(first: &[u8], second: &[u8]) -> bool
+    ensures { λ r. ⌜ r ≡ areBoth (now (first .entry)) (now (second .entry)) ⌝ }
+{
+    if !same_text(first, b"strict") {
+        return false;
+    }
+    same_text(second, b"old-size")
+}
+
+// What is asked by two words.
+fn asked_by_two(first: &[u8], second: &[u8]) -> Asked
+    ensures { λ r. ⌜ r ≡ askedByTwo (now (first .entry)) (now (second .entry)) ⌝ }
+{
+    if are_both(first, second) {
+        return Asked::Read(Mode::Strict, Size::Old);
+    }
+    if are_both(second, first) {
+        return Asked::Read(Mode::Strict, Size::Old);
+    }
+    Asked::Unknown
+}
+
+// What is asked by so many words, the program's own name among them, of which these stand behind the name; a word that there is not counts for nothing.
+pub fn asked_by(count: usize, first: &[u8], second: &[u8]) -> Asked
+    ensures { λ r. ⌜ r ≡ askedBy count (now (first .entry)) (now (second .entry)) ⌝ }
 {
     if count <= 1 {
-        return Asked::Read(Mode::Plain);
+        return Asked::Read(Mode::Plain, Size::Published);
     }
-    if count != 2 {
-        return Asked::Unknown;
+    if count == 2 {
+        return asked_by_one(first);
     }
-    if same_text(word, b"strict") {
-        return Asked::Read(Mode::Strict);
+    if count == 3 {
+        return asked_by_two(first, second);
     }
     Asked::Unknown
 }
 
 // Says on standard error how the program is used.
 pub fn tell_use() {
-    io::write_all(STDERR_FILENO, b"use: cue [strict] < sheet > file.wav\n");
+    io::write_all(
+        STDERR_FILENO,
+        b"use: cue [strict] [old-size] < sheet > file.wav\n",
+    );
 }

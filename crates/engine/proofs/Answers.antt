@@ -5,7 +5,8 @@ use mathlib.Core.List.{List}
 use Prim.Native.Nat.{ℕ, _≤_, _<_}
 use lib.ListN.{length}
 use borrow.Author.Tests.{le-leb, lt-leb}
-use Rattle.form.specs.Form.{header, oldSize}
+use Rattle.form.specs.declared.size.Size.{Size}
+use Rattle.form.specs.Form.{header}
 use Rattle.wave.specs.File.{put}
 use Rattle.sheet.specs.declared.sheet.Sheet.{Sheet}
 use Rattle.sheet.specs.Parts.{lengthOf}
@@ -26,10 +27,10 @@ module _ (rate : ℕ) (s : Sheet) (buffer : List ℕ) where
   unfolding headerOf _>>_ refuse_on_unless_
   header-taken e l = rw (e, le-leb 44 (length buffer) l)
 
-  pub header-refused : (n l : ℕ) → headerOf rate s (length buffer) ≡ refused n l → headerIn rate s buffer ≡ buffer
+  pub header-refused : (size : Size) (n l : ℕ) → headerOf rate s (length buffer) ≡ refused n l → headerIn size rate s buffer ≡ buffer
   unfolding headerIn headedBy
-  header-refused n l e = rw e
+  header-refused size n l e = rw e
 
-  pub header-written : (n : ℕ) → headerOf rate s (length buffer) ≡ going n → headerIn rate s buffer ≡ put buffer 0 (header (oldSize (lengthOf rate s)) rate (lengthOf rate s))
+  pub header-written : (size : Size) (n : ℕ) → headerOf rate s (length buffer) ≡ going n → headerIn size rate s buffer ≡ put buffer 0 (header size rate (lengthOf rate s))
   unfolding headerIn headedBy
-  header-written n e = rw e
+  header-written size n e = rw e

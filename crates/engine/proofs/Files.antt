@@ -9,7 +9,8 @@ use native.Mathlib.Omega.{arith}
 use lib.ListN.{length}
 use lib.Ieee.{Float}
 use borrow.Author.Tests.{le-leb}
-use Rattle.form.specs.Form.{header, oldSize}
+use Rattle.form.specs.declared.size.Size.{Size}
+use Rattle.form.specs.Form.{header}
 use Rattle.form.specs.Sample.{bytesOf}
 use Rattle.wave.specs.File.{put, roomAt, fitsFile, fileIn}
 use Rattle.form.proofs.Published.{header-length}
@@ -34,24 +35,24 @@ module _ (rate : ℕ) (s : Sheet) (e : isSheet rate s ≡ true) where
   written-count start buffer at = ⊎-elim (λ g. ap countIn g) (λ w. ap countIn (w .2) ∙ sym (w .3)) (written-or rate s e start buffer at)
 
 -- what the file of samples that fit leaves in a buffer
-file-is : (rate : ℕ) (xs : List Float) (buffer : List ℕ) (n : ℕ) → length xs ≡ n → n ≤ 2000000000 → 44 + 2 * n ≤ length buffer
-    → fileIn rate xs buffer ≡ put buffer 0 (header (oldSize n) rate n ++ bytesOf xs)
+file-is : (size : Size) (rate : ℕ) (xs : List Float) (buffer : List ℕ) (n : ℕ) → length xs ≡ n → n ≤ 2000000000 → 44 + 2 * n ≤ length buffer
+    → fileIn size rate xs buffer ≡ put buffer 0 (header size rate n ++ bytesOf xs)
 unfolding fileIn fitsFile
-file-is rate xs buffer n e small h =
+file-is size rate xs buffer n e small h =
     rw (le-leb (length xs) 2000000000 (omega arith), le-leb (44 + 2 * length xs) (length buffer) (omega arith), fileIn)
-    (ap (λ (k : ℕ). put buffer 0 (header (oldSize k) rate k ++ bytesOf xs)) e)
+    (ap (λ (k : ℕ). put buffer 0 (header size rate k ++ bytesOf xs)) e)
 
 -- the header, and behind it a window of all samples: the file of the sheet's samples. Its length field says how many bytes they have.
-pub whole-file : (rate : ℕ) (s : Sheet) (buffer : List ℕ) → isSheet rate s ≡ true → 44 + 2 * lengthOf rate s ≤ length buffer
-    → writtenIn rate s 0 (headerIn rate s buffer) 44 ≡ fileIn rate (samplesFrom (placed rate s) 0 (lengthOf rate s)) buffer
+pub whole-file : (size : Size) (rate : ℕ) (s : Sheet) (buffer : List ℕ) → isSheet rate s ≡ true → 44 + 2 * lengthOf rate s ≤ length buffer
+    → writtenIn rate s 0 (headerIn size rate s buffer) 44 ≡ fileIn size rate (samplesFrom (placed rate s) 0 (lengthOf rate s)) buffer
 unfolding roomAt
-whole-file rate s buffer e h =
+whole-file size rate s buffer e h =
     let ps = placed rate s in
     let n = lengthOf rate s in
     let xs = samplesFrom ps 0 n in
-    let head = header (oldSize n) rate n in
-    let headed : headerIn rate s buffer ≡ put buffer 0 head = header-written rate s buffer 44 (header-taken rate s buffer e (omega arith)) in
-    let long : length head ≡ 44 = header-length (oldSize n) rate n in
+    let head = header size rate n in
+    let headed : headerIn size rate s buffer ≡ put buffer 0 head = header-written rate s buffer size 44 (header-taken rate s buffer e (omega arith)) in
+    let long : length head ≡ 44 = header-length size rate n in
     let fits : 0 + length head ≤ length buffer = omega arith in
     let same : length (put buffer 0 head) ≡ length buffer = put-length buffer 0 head fits in
     let all : min ((length (put buffer 0 head) - 44) / 2) (n - 0) ≡ n = omega arith in
@@ -59,4 +60,4 @@ whole-file rate s buffer e h =
     ∙ written-is rate s e 0 (put buffer 0 head) 44
     ∙ ap (λ (k : ℕ). put (put buffer 0 head) 44 (bytesOf (samplesFrom ps 0 k))) all
     ∙ put-put buffer 0 head fits (bytesOf xs) 44 (omega arith)
-    ∙ sym (file-is rate xs buffer n (samples-length ps 0 n) (passing rate s e .length) h)
+    ∙ sym (file-is size rate xs buffer n (samples-length ps 0 n) (passing rate s e .length) h)

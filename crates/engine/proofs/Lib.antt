@@ -1,3 +1,5 @@
 pub mod Answers
+pub mod Counted
 pub mod Files
 pub mod HandedOn
+pub mod Published

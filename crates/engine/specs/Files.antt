@@ -4,7 +4,8 @@ use mathlib.Core.List.{List}
 use Prim.Native.Nat.{ℕ}
 use lib.Dec.{leb}
 use lib.ListN.{length}
-use Rattle.form.specs.Form.{header, oldSize}
+use Rattle.form.specs.declared.size.Size.{Size}
+use Rattle.form.specs.Form.{header}
 use Rattle.wave.specs.File.{put}
 use Rattle.sheet.specs.declared.sheet.Sheet.{Sheet}
 use Rattle.sheet.specs.Parts.{lengthOf}
@@ -20,11 +21,11 @@ headerOf rate s room = do
   going 44
 
 -- the buffer afterwards, by what came of it: the header in front, or every byte as it was
-unfoldable pub headedBy : ℕ → Sheet → List ℕ → Outcome ℕ → List ℕ
-unfolding put header oldSize lengthOf
-headedBy rate s buffer (going n) = put buffer 0 (header (oldSize (lengthOf rate s)) rate (lengthOf rate s))
-headedBy rate s buffer (refused k l) = buffer
+unfoldable pub headedBy : Size → ℕ → Sheet → List ℕ → Outcome ℕ → List ℕ
+unfolding put header lengthOf
+headedBy size rate s buffer (going n) = put buffer 0 (header size rate (lengthOf rate s))
+headedBy size rate s buffer (refused k l) = buffer
 
-unfoldable pub headerIn : ℕ → Sheet → List ℕ → List ℕ
+unfoldable pub headerIn : Size → ℕ → Sheet → List ℕ → List ℕ
 unfolding headerOf headedBy
-headerIn rate s buffer = headedBy rate s buffer (headerOf rate s (length buffer))
+headerIn size rate s buffer = headedBy size rate s buffer (headerOf rate s (length buffer))

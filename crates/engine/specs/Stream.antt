@@ -5,7 +5,8 @@ use mathlib.Core.List.{List, [], _++_}
 use Prim.Native.Nat.{ℕ, _-_, _*_, _/_, _%_}
 use lib.Dec.{leb, eqb}
 use lib.ListN.{length, take, drop}
-use Rattle.form.specs.Form.{header, oldSize}
+use Rattle.form.specs.declared.size.Size.{Size}
+use Rattle.form.specs.Form.{header}
 use Rattle.form.specs.Sample.{bytesOf}
 use Rattle.wave.specs.File.{put}
 use Rattle.sheet.specs.declared.sheet.Sheet.{Sheet}
@@ -18,11 +19,11 @@ use Rattle.windows.specs.Written.{writtenOf}
 use Rattle.engine.specs.Files.{headerOf}
 
 -- the bytes of a sheet's file; a sheet that does not pass the check has none
-unfoldable pub fileOf : ℕ → Sheet → List ℕ
-unfolding isSheet header oldSize lengthOf bytesOf samplesFrom placed
-fileOf rate s =
+unfoldable pub fileOf : Size → ℕ → Sheet → List ℕ
+unfolding isSheet header lengthOf bytesOf samplesFrom placed
+fileOf size rate s =
     elim (isSheet rate s) [
-      | true ↦ header (oldSize (lengthOf rate s)) rate (lengthOf rate s) ++ bytesOf (samplesFrom (placed rate s) 0 (lengthOf rate s))
+      | true ↦ header size rate (lengthOf rate s) ++ bytesOf (samplesFrom (placed rate s) 0 (lengthOf rate s))
       | false ↦ []
     ]
 
@@ -46,6 +47,6 @@ unfolding countIn headerOf samplesNext
 nextOf rate s room at = elim (eqb at 0) [ true ↦ countIn (headerOf rate s room) | false ↦ samplesNext rate s room at ]
 
 -- the buffer afterwards: those bytes of the file in front
-unfoldable pub nextIn : ℕ → Sheet → List ℕ → ℕ → List ℕ
+unfoldable pub nextIn : Size → ℕ → Sheet → List ℕ → ℕ → List ℕ
 unfolding put nextOf fileOf
-nextIn rate s buffer at = put buffer 0 (take (nextOf rate s (length buffer) at) (drop at (fileOf rate s)))
+nextIn size rate s buffer at = put buffer 0 (take (nextOf rate s (length buffer) at) (drop at (fileOf size rate s)))

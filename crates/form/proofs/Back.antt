@@ -13,7 +13,9 @@ use lib.Seq.{drop-at}
 use lib.Ieee.{Float, nan, inf, fin, binary32, up, down, mul}
 use borrow.Author.Tests.{le-leb, lt-leb}
 use Rattle.ieee.specs.Constants.{sampleScale}
-use Rattle.form.specs.Form.{le, header}
+use Rattle.form.specs.declared.size.Size.{Size}
+use Rattle.form.specs.declared.size.Size.the-variants.{Published, Old}
+use Rattle.form.specs.Form.{le, sizeField, header}
 use Rattle.form.specs.Sample.{clamp, halfUp, whole16, sample16, word, bytesOf, number16, numbersOf}
 use Rattle.form.proofs.Published.{header-length}
 
@@ -37,10 +39,19 @@ pub le-back : (n v : ℕ) → v < 256 ^ n → value (le n v) ≡ v
 le-back n v h = le-value n v ∙ mod-eq-of-lt h
 
 -- as the RIFF size and the length of the samples do, at their places of a header
-pub sizes-back : (size rate n : ℕ) → size < 256 ^ 4 → 2 * n < 256 ^ 4
-    → (value (take 4 (drop 4 (header size rate n))) ≡ size) × (value (take 4 (drop 40 (header size rate n))) ≡ 2 * n)
+pub sizes-back : (size : Size) (rate n : ℕ) → sizeField size n < 256 ^ 4 → 2 * n < 256 ^ 4
+    → (value (take 4 (drop 4 (header size rate n))) ≡ sizeField size n) × (value (take 4 (drop 40 (header size rate n))) ≡ 2 * n)
 unfolding header
-sizes-back size rate n h g = (le-back 4 size h, le-back 4 (2 * n) g)
+sizes-back size rate n h g = (le-back 4 (sizeField size n) h, le-back 4 (2 * n) g)
+
+-- two numbers that are four apart are not the same modulo 256 ^ 4
+four-apart : (n : ℕ) → (32 + 2 * n) % 256 ^ 4 ≡ (36 + 2 * n) % 256 ^ 4 → ⊥
+four-apart n e = omega arith
+
+-- so the four bytes of the RIFF size are others under each of its names, for every number of samples
+pub sizes-differ : (rate n : ℕ) → take 4 (drop 4 (header Old rate n)) ≡ take 4 (drop 4 (header Published rate n)) → ⊥
+unfolding header sizeField
+sizes-differ rate n e = four-apart n (sym (le-value 4 (32 + 2 * n)) ∙ ap value e ∙ le-value 4 (36 + 2 * n))
 
 -- ---- 16 bits
 
@@ -81,5 +92,5 @@ samples-back [] = refl
 samples-back (x ∷ xs) = ap₂ (λ (z : ℤ) (zs : List ℤ). z ∷ zs) (word-back (sample16 x) (sample-range x)) (samples-back xs)
 
 -- and so are those after the 44 bytes of a file's header
-pub file-back : (size rate n : ℕ) (xs : List Float) → numbersOf (drop 44 (header size rate n ++ bytesOf xs)) ≡ map sample16 xs
+pub file-back : (size : Size) (rate n : ℕ) (xs : List Float) → numbersOf (drop 44 (header size rate n ++ bytesOf xs)) ≡ map sample16 xs
 file-back size rate n xs = ap numbersOf (drop-at (header size rate n) (bytesOf xs) 44 (header-length size rate n)) ∙ samples-back xs

@@ -5,10 +5,13 @@ use mathlib.Core.Bool.{true, false}
 use mathlib.Core.List.{[], _∷_}
 use Prim.Native.Nat.{ℕ}
 use lib.IntN.{ℤ, pos, negsuc}
+use lib.ListN.{take, drop}
 use lib.Ieee.{nan, inf, binary32, mul, lt, ofBits}
 use Rattle.ieee.specs.Constants.{minusOne, one}
-use Rattle.form.specs.Form.{oldSize, header}
+use Rattle.form.specs.declared.size.Size.the-variants.{Published, Old}
+use Rattle.form.specs.Form.{sizeField, header}
 use Rattle.form.specs.Sample.{sample16, sampleBytes}
+use Rattle.form.proofs.Back.{value}
 
 -- the number of the sample whose f32 has the given bits
 abbrev number : ℕ → ℤ
@@ -51,12 +54,21 @@ pub ends :
 unfolding sample16 ofBits mul lt
 ends = (refl, refl, refl, refl, refl, refl, refl, refl, refl)
 
--- the 44 bytes of a file of no samples, and "26,461; RIFF size 52,954"
+-- the 44 bytes of a file of no samples: 36 bytes follow the RIFF size, and the old one says 32
 pub headers :
-    (header (oldSize 0) 44100 0 ≡
-    82 ∷ 73 ∷ 70 ∷ 70 ∷ 32 ∷ 0 ∷ 0 ∷ 0 ∷ 87 ∷ 65 ∷ 86 ∷ 69
+    (header Published 44100 0 ≡
+    82 ∷ 73 ∷ 70 ∷ 70 ∷ 36 ∷ 0 ∷ 0 ∷ 0 ∷ 87 ∷ 65 ∷ 86 ∷ 69
     ∷ 102 ∷ 109 ∷ 116 ∷ 32 ∷ 16 ∷ 0 ∷ 0 ∷ 0 ∷ 1 ∷ 0 ∷ 1 ∷ 0 ∷ 68 ∷ 172 ∷ 0 ∷ 0 ∷ 136 ∷ 88 ∷ 1 ∷ 0 ∷ 2 ∷ 0 ∷ 16 ∷ 0
     ∷ 100 ∷ 97 ∷ 116 ∷ 97 ∷ 0 ∷ 0 ∷ 0 ∷ 0 ∷ [])
-    × (oldSize 26461 ≡ 52954)
-unfolding header oldSize
+    × (take 8 (header Old 44100 0) ≡ 82 ∷ 73 ∷ 70 ∷ 70 ∷ 32 ∷ 0 ∷ 0 ∷ 0 ∷ [])
+unfolding header
 headers = (refl, refl)
+
+-- sheet 13: "26,461; RIFF size 52,954", which is the old one; "Sheet 13's field becomes 52,958"
+pub sheet-13 :
+    (sizeField Published 26461 ≡ 52958)
+    × (sizeField Old 26461 ≡ 52954)
+    × (value (take 4 (drop 4 (header Published 44100 26461))) ≡ 52958)
+    × (value (take 4 (drop 4 (header Old 44100 26461))) ≡ 52954)
+unfolding header sizeField value
+sheet-13 = (refl, refl, refl, refl)

@@ -1,19 +1,22 @@
--- The file that is written is the published form but for one field: its chunks have even lengths, so no byte is padded, and only the RIFF size says
--- 32 + 2n where the form says 36 + 2n. Assumes nothing.
-use mathlib.Core.Path.{_≡_, refl}
+-- The file that is written is the published form, byte for byte: its chunks have even lengths, so no byte is padded, and the RIFF size counts every byte behind
+-- it. With the old size it is the same file but for the four bytes of that field. Assumes nothing.
+use mathlib.Core.Path.{_≡_, refl, sym, ap, _∙_}
 use mathlib.Core.List.{List, [], _∷_, _++_}
 use Prim.Native.Nat.{ℕ, _+_, _*_, _%_}
 use native.Mathlib.Omega.{arith}
 use lib.ListN.{length, take, drop}
+use lib.Seq.{take-at}
 use lib.Ieee.{Float}
 use borrow.Author.Tests.{eq-eqb}
-use Rattle.form.specs.Form.{padded, waveBody, waveFile, published, header}
+use Rattle.form.specs.declared.size.Size.{Size}
+use Rattle.form.specs.declared.size.Size.the-variants.{Published, Old}
+use Rattle.form.specs.Form.{padded, waveBody, waveFile, published, sizeField, header}
 use Rattle.form.specs.Sample.{bytesOf}
 
 -- ---- how long the parts are
 
 -- a header has 44 bytes
-pub header-length : (size rate n : ℕ) → length (header size rate n) ≡ 44
+pub header-length : (size : Size) (rate n : ℕ) → length (header size rate n) ≡ 44
 unfolding header
 header-length size rate n = refl
 
@@ -37,26 +40,38 @@ module _ (rate : ℕ) (body : List ℕ) (n : ℕ) (even : length body ≡ 2 * n)
   body-length = rw (padded-even body (omega arith)) (omega arith)
 
   -- the header goes in front
-  pub file-is : (size : ℕ) → header size rate n ++ body ≡ waveFile size rate body
+  file-is : (size : Size) → header size rate n ++ body ≡ waveFile (sizeField size n) rate body
   unfolding waveFile header
   file-is size = rw (padded-even (waveBody rate body) (omega (arith, body-length)), padded-even body (omega arith), even)
 
   -- as published, it says how long the rest is
-  pub published-is : waveFile (36 + 2 * n) rate body ≡ published rate body
-  unfolding waveFile published
-  published-is = rw body-length
+  published-is : header Published rate n ++ body ≡ published rate body
+  unfolding waveFile published sizeField
+  published-is = file-is Published ∙ rw body-length
 
--- whatever its RIFF size says, every other byte of a file is as published
-pub rest-published : (size rate : ℕ) (body : List ℕ) → (take 4 (waveFile size rate body) ≡ take 4 (published rate body)) × (drop 8 (waveFile size rate body) ≡ drop 8 (published rate body))
-unfolding waveFile published
-rest-published size rate body = (refl, refl)
+  -- and is the published file's front
+  front-is : header Published rate n ≡ take 44 (published rate body)
+  front-is = sym (ap (take 44) (sym published-is) ∙ take-at (header Published rate n) body 44 (header-length Published rate n))
 
 -- ---- the file of given samples
 
--- the header and the samples are a file of the form, with the RIFF size that the header names
-pub file-form : (size rate : ℕ) (xs : List Float) → header size rate (length xs) ++ bytesOf xs ≡ waveFile size rate (bytesOf xs)
-file-form size rate xs = file-is rate (bytesOf xs) (length xs) (bytes-length xs) size
+-- the header and the samples are the published file
+pub file-published : (rate : ℕ) (xs : List Float) → header Published rate (length xs) ++ bytesOf xs ≡ published rate (bytesOf xs)
+file-published rate xs = published-is rate (bytesOf xs) (length xs) (bytes-length xs)
 
--- with the size 36 + 2n it is the published file
-pub only-the-size : (rate : ℕ) (xs : List Float) → waveFile (36 + 2 * length xs) rate (bytesOf xs) ≡ published rate (bytesOf xs)
-only-the-size rate xs = published-is rate (bytesOf xs) (length xs) (bytes-length xs)
+-- so the header is its first 44 bytes
+pub header-published : (rate : ℕ) (xs : List Float) → header Published rate (length xs) ≡ take 44 (published rate (bytesOf xs))
+header-published rate xs = front-is rate (bytesOf xs) (length xs) (bytes-length xs)
+
+-- under the old name it is the form's file whose RIFF size says 32 + 2n
+pub file-old : (rate : ℕ) (xs : List Float) → header Old rate (length xs) ++ bytesOf xs ≡ waveFile (32 + 2 * length xs) rate (bytesOf xs)
+unfolding sizeField
+file-old rate xs = file-is rate (bytesOf xs) (length xs) (bytes-length xs) Old
+
+-- ---- the two sizes
+
+-- two files agree before and behind the four bytes of the size, whatever it is called
+pub beside-the-size : (a b : Size) (rate n : ℕ) (body : List ℕ)
+    → (take 4 (header a rate n ++ body) ≡ take 4 (header b rate n ++ body)) × (drop 8 (header a rate n ++ body) ≡ drop 8 (header b rate n ++ body))
+unfolding header
+beside-the-size a b rate n body = (refl, refl)

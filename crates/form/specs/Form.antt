@@ -1,14 +1,16 @@
 -- The WAVE form of "Multimedia Programming Interface and Data Specifications 1.0" (IBM and Microsoft, 1991), as lists of bytes.
 -- A chunk is a name of four characters, the size of its data as four bytes, the lower first, and the data, padded to an even
 -- length. A WAVE file is one chunk named RIFF whose data is the word WAVE, a chunk `fmt ` and a chunk `data`.
--- Document 01: "The RIFF size is 32 + 2n as in the Rust; the other header fields follow the published form." The size is a
--- parameter here, and so is the rate. Assumes nothing.
+-- Request T-06: "New files carry 36 + 2n, and the header is proved against the published form. The old value stays available by name". That old value is
+-- document 01's: "The RIFF size is 32 + 2n as in the Rust; the other header fields follow the published form." The rate is a parameter. Assumes nothing.
 use mathlib.Core.Bool.{true, false}
 use mathlib.Core.List.{List, [], _∷_, _++_}
 use Prim.Native.Nat.{ℕ, zero, suc, _+_, _*_, _/_, _%_}
 use lib.Dec.{eqb}
 use lib.ListN.{length}
 use Rattle.text.specs.Quoted.{bytes}
+use Rattle.form.specs.declared.size.Size.{Size}
+use Rattle.form.specs.declared.size.Size.the-variants.{Published, Old}
 
 -- the number v as n bytes, the lower first
 unfoldable pub le : ℕ → ℕ → List ℕ
@@ -76,11 +78,18 @@ unfoldable pub published : ℕ → List ℕ → List ℕ
 unfolding chunk waveBody riffName
 published rate body = chunk riffName (waveBody rate body)
 
--- "The RIFF size is 32 + 2n as in the Rust", for n samples
-unfoldable pub oldSize : ℕ → ℕ
-oldSize n = 32 + 2 * n
+-- ---- the header of a file of n samples
 
--- the 44 bytes before the samples of a file of n samples
-unfoldable pub header : ℕ → ℕ → ℕ → List ℕ
-unfolding le chunk format riffName waveName fmtName dataName
-header size rate n = riffName ++ (le 4 size ++ (waveName ++ (chunk fmtName (format rate) ++ (dataName ++ le 4 (2 * n)))))
+-- the RIFF size by its name: "36 + 2n", which "counts every byte after the size field", or as in the Rust "32 + 2n"
+unfoldable pub sizeField : Size → ℕ → ℕ
+sizeField Published n = 36 + 2 * n
+sizeField Old n = 32 + 2 * n
+
+-- the 44 bytes before the samples
+unfoldable pub header : Size → ℕ → ℕ → List ℕ
+unfolding le chunk format riffName waveName fmtName dataName sizeField
+header size rate n = riffName ++ (le 4 (sizeField size n) ++ (waveName ++ (chunk fmtName (format rate) ++ (dataName ++ le 4 (2 * n)))))
+
+-- the name that a number stands for, where a caller has no enum: 1 is the old size, and every other number the published one, which every reader takes
+unfoldable pub sizeNumbered : ℕ → Size
+sizeNumbered number = elim (eqb number 1) [ true ↦ Old | false ↦ Published ]

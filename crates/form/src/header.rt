@@ -1,10 +1,12 @@
-// The 44 header bytes of a WAV file: every field of the published form, with the RIFF size that the
-// caller names.
+// The 44 header bytes of a WAV file: every field of the published form, or with the old RIFF size where
+// the caller names it.
 
 ghost use mathlib.Core.Path.{_≡_};
 ghost use Prim.Native.Nat.{_≤_};
 ghost use lib.Seq.{sets};
 ghost use Rattle.form.specs.Form.{le, header};
+use crate::size::Size;
+use crate::size::field;
 
 // A header with the four bytes of a number at a place, the lower first.
 fn with_number(mut form: [u8; 44], at: usize, v: u64) -> [u8; 44]
@@ -18,13 +20,13 @@ fn with_number(mut form: [u8; 44], at: usize, v: u64) -> [u8; 44]
     form
 }
 
-// The header of a file of n samples at so many samples a second, whose RIFF size says `size`. The
+// The header of a file of n samples at so many samples a second, with the RIFF size of that name. The
 // form has PCM, one channel, 2 bytes a block and 16 bits a sample.
-pub fn header(size: u32, rate: u32, n: u32) -> [u8; 44]
+pub fn header(size: Size, rate: u32, n: u32) -> [u8; 44]
     ensures { λ r. ⌜ r ≡ header size rate n ⌝ }
 {
     let form = *b"RIFF____WAVEfmt \x10\0\0\0\x01\0\x01\0________\x02\0\x10\0data____";
-    let sized = with_number(form, 4, size as u64);
+    let sized = with_number(form, 4, field(size, n));
     let rated = with_number(sized, 24, rate as u64);
     let timed = with_number(rated, 28, rate as u64 * 2);
     with_number(timed, 40, 2 * (n as u64))

@@ -2,3 +2,4 @@
 
 pub mod header;
 pub mod sample;
+pub mod size;

@@ -6,7 +6,8 @@ use Prim.Native.Nat.{ℕ, _+_, _-_, _*_, _≤_, _<_}
 use native.Mathlib.Omega.{arith}
 use lib.ListN.{length}
 use borrow.Author.Tests.{le-leb, lt-leb}
-use Rattle.form.specs.Form.{header, oldSize}
+use Rattle.form.specs.declared.size.Size.{Size}
+use Rattle.form.specs.Form.{header}
 use Rattle.form.specs.Sample.{bytesOf}
 use Rattle.wave.specs.File.{put, fitsFile, fileIn}
 use Rattle.sheet.specs.declared.sheet.Sheet.{Sheet}
@@ -45,9 +46,9 @@ module _ (mode : Mode) (source : List ℕ) (n l : ℕ) (e : sheetIn mode source 
   unfolding headerAsked
   header-refused room = then-refused n l (sheetIn mode source) _ e
 
-  pub header-kept : (buffer : List ℕ) → headerWritten mode source buffer ≡ buffer
+  pub header-kept : (riff : Size) (buffer : List ℕ) → headerWritten mode riff source buffer ≡ buffer
   unfolding headerWritten
-  header-kept buffer = written-refused buffer 0 n l _ _ (header-refused (length buffer))
+  header-kept riff buffer = written-refused buffer 0 n l _ _ (header-refused (length buffer))
 
   pub window-refused : (start room at : ℕ) → windowAsked mode source start room at ≡ refused n l
   unfolding windowAsked
@@ -69,9 +70,9 @@ module _ (mode : Mode) (source : List ℕ) (n l : ℕ) (e : sheetIn mode source 
   unfolding wavTold told
   wav-told-refused room = ap₂ both-told size-refused (wav-refused room)
 
-  pub wav-kept : (buffer : List ℕ) → wavWritten mode source buffer ≡ buffer
+  pub wav-kept : (riff : Size) (buffer : List ℕ) → wavWritten mode riff source buffer ≡ buffer
   unfolding wavWritten
-  wav-kept buffer = written-refused buffer 0 n l _ _ (wav-refused (length buffer))
+  wav-kept riff buffer = written-refused buffer 0 n l _ _ (wav-refused (length buffer))
 
 -- ---- a text that is a sheet
 
@@ -94,16 +95,16 @@ module _ (mode : Mode) (source : List ℕ) (s : Sheet) (e : sheetIn mode source 
 
   -- ---- the buffer afterwards
 
-  headed : (buffer : List ℕ) (o : Outcome ℕ) → written buffer 0 (o >>= (λ (n : ℕ). going s >>= (λ (t : Sheet). going (headerBytes t)))) ≡ headedBy rate s buffer o
+  headed : (riff : Size) (buffer : List ℕ) (o : Outcome ℕ) → written buffer 0 (o >>= (λ (n : ℕ). going s >>= (λ (t : Sheet). going (headerBytes riff t)))) ≡ headedBy riff rate s buffer o
   unfolding written headedBy _>>=_
-  headed buffer (going n) = refl
-  headed buffer (refused k l) = refl
+  headed riff buffer (going n) = refl
+  headed riff buffer (refused k l) = refl
 
-  pub header-written : (buffer : List ℕ) → headerWritten mode source buffer ≡ headerIn rate s buffer
+  pub header-written : (riff : Size) (buffer : List ℕ) → headerWritten mode riff source buffer ≡ headerIn riff rate s buffer
   unfolding headerWritten headerIn
-  header-written buffer =
-      ap₂ (λ (o : Outcome ℕ) (i : Outcome Sheet). written buffer 0 (o >>= (λ (n : ℕ). i >>= (λ (t : Sheet). going (headerBytes t))))) (header-going (length buffer)) e
-      ∙ headed buffer (headerOf rate s (length buffer))
+  header-written riff buffer =
+      ap₂ (λ (o : Outcome ℕ) (i : Outcome Sheet). written buffer 0 (o >>= (λ (n : ℕ). i >>= (λ (t : Sheet). going (headerBytes riff t))))) (header-going (length buffer)) e
+      ∙ headed riff buffer (headerOf rate s (length buffer))
 
   windowed : (start : ℕ) (buffer : List ℕ) (at : ℕ) (o : Outcome ℕ)
       → written buffer at (o >>= (λ (n : ℕ). going s >>= (λ (t : Sheet). going (sampleBytes t start n)))) ≡ writtenBy rate s start buffer at o
@@ -143,27 +144,27 @@ module _ (mode : Mode) (source : List ℕ) (s : Sheet) (e : sheetIn mode source 
   unfolding wavTold told
   wav-told-room room h = ap₂ both-told size-going (wav-room room h)
 
-  pub wav-short-kept : (buffer : List ℕ) → length buffer < size → wavWritten mode source buffer ≡ buffer
+  pub wav-short-kept : (riff : Size) (buffer : List ℕ) → length buffer < size → wavWritten mode riff source buffer ≡ buffer
   unfolding wavWritten
-  wav-short-kept buffer h = written-refused buffer 0 30 0 _ _ (wav-short (length buffer) h)
+  wav-short-kept riff buffer h = written-refused buffer 0 30 0 _ _ (wav-short (length buffer) h)
 
-  pub wav-is : (buffer : List ℕ) → size ≤ length buffer → wavWritten mode source buffer ≡ put buffer 0 (headerBytes s ++ sampleBytes s 0 samples)
+  pub wav-is : (riff : Size) (buffer : List ℕ) → size ≤ length buffer → wavWritten mode riff source buffer ≡ put buffer 0 (headerBytes riff s ++ sampleBytes s 0 samples)
   unfolding wavWritten written _>>=_
-  wav-is buffer h =
-      ap₂ (λ (o : Outcome ℕ) (i : Outcome Sheet). written buffer 0 (o >>= (λ (n : ℕ). i >>= (λ (t : Sheet). going (headerBytes t ++ sampleBytes t 0 (lengthOf rate t))))))
+  wav-is riff buffer h =
+      ap₂ (λ (o : Outcome ℕ) (i : Outcome Sheet). written buffer 0 (o >>= (λ (n : ℕ). i >>= (λ (t : Sheet). going (headerBytes riff t ++ sampleBytes t 0 (lengthOf rate t))))))
       (wav-room (length buffer) h) e
 
   -- the file of the sheet's samples, as 01 has the file of given samples
-  pub wav-file : (buffer : List ℕ) → size ≤ length buffer → wavWritten mode source buffer ≡ fileIn rate (samplesFrom (placed rate s) 0 samples) buffer
+  pub wav-file : (riff : Size) (buffer : List ℕ) → size ≤ length buffer → wavWritten mode riff source buffer ≡ fileIn riff rate (samplesFrom (placed rate s) 0 samples) buffer
   unfolding fileIn fitsFile
-  wav-file buffer h =
+  wav-file riff buffer h =
       let xs = samplesFrom (placed rate s) 0 samples in
       let n : length xs ≡ samples = samples-length (placed rate s) 0 samples in
       let few : samples ≤ 2000000000 = passing rate s (sheet-passes mode source s e) .length in
-      wav-is buffer h
-      ∙ ap (λ (k : ℕ). put buffer 0 (header (oldSize k) rate k ++ bytesOf xs)) (sym n)
+      wav-is riff buffer h
+      ∙ ap (λ (k : ℕ). put buffer 0 (header riff rate k ++ bytesOf xs)) (sym n)
       ∙ sym (rw (le-leb (length xs) 2000000000 (omega (arith, n, few)), le-leb (44 + 2 * length xs) (length buffer) (omega (arith, n, h)), fileIn) refl)
 
   -- and so the header with a window of all samples behind it
-  pub wav-pieces : (buffer : List ℕ) → size ≤ length buffer → writtenIn rate s 0 (headerIn rate s buffer) 44 ≡ wavWritten mode source buffer
-  wav-pieces buffer h = whole-file rate s buffer (sheet-passes mode source s e) h ∙ sym (wav-file buffer h)
+  pub wav-pieces : (riff : Size) (buffer : List ℕ) → size ≤ length buffer → writtenIn rate s 0 (headerIn riff rate s buffer) 44 ≡ wavWritten mode riff source buffer
+  wav-pieces riff buffer h = whole-file riff rate s buffer (sheet-passes mode source s e) h ∙ sym (wav-file riff buffer h)

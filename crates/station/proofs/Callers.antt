@@ -5,7 +5,9 @@ use mathlib.Core.List.{List, _++_}
 use Prim.Native.Nat.{ℕ, _+_, _-_, _*_, _/_, _≤_, min}
 use native.Mathlib.Omega.{arith}
 use lib.ListN.{length, length-append}
-use Rattle.form.specs.Form.{oldSize}
+use Rattle.form.specs.declared.size.Size.{Size}
+use Rattle.form.specs.declared.size.Size.the-variants.{Published}
+use Rattle.form.specs.Form.{published}
 use Rattle.wave.specs.File.{put, roomAt}
 use Rattle.form.proofs.Published.{header-length}
 use Rattle.sheet.specs.declared.sheet.Sheet.{Sheet}
@@ -16,6 +18,7 @@ use Rattle.engine.specs.Stream.{fileOf}
 use Rattle.engine.proofs.Answers.{header-taken, header-written as header-put}
 use Rattle.windows.proofs.Windows.{written-is, written-cut, both-put}
 use Rattle.engine.proofs.HandedOn.{file-passing}
+use Rattle.engine.proofs.Published.{sheet-published}
 use Rattle.meaning.specs.Sheets.{Read, sheetRead, lengthRead}
 use Rattle.meaning.specs.Layout.{sheetOf}
 use Rattle.meaning.proofs.Laid.{laid-length}
@@ -81,24 +84,30 @@ samples-read mode source = go (sheetRead mode rate source)
 -- ---- the file
 
 -- the file that the program `cue` hands on
-pub wav-handed : (mode : Mode) (source : List ℕ) (s : Sheet) (buffer : List ℕ) → sheetIn mode source ≡ going s → 44 + 2 * lengthOf rate s ≤ length buffer
-    → wavWritten mode source buffer ≡ put buffer 0 (fileOf rate s)
-wav-handed mode source s buffer e h = wav-is mode source s e buffer h ∙ ap (put buffer 0) (sym (file-passing rate s (sheet-passes mode source s e)))
+pub wav-handed : (mode : Mode) (riff : Size) (source : List ℕ) (s : Sheet) (buffer : List ℕ) → sheetIn mode source ≡ going s → 44 + 2 * lengthOf rate s ≤ length buffer
+    → wavWritten mode riff source buffer ≡ put buffer 0 (fileOf riff rate s)
+wav-handed mode riff source s buffer e h = wav-is mode source s e riff buffer h ∙ ap (put buffer 0) (sym (file-passing riff rate s (sheet-passes mode source s e)))
+
+-- which is the published form of its samples
+pub wav-published : (mode : Mode) (source : List ℕ) (s : Sheet) (buffer : List ℕ) → sheetIn mode source ≡ going s → 44 + 2 * lengthOf rate s ≤ length buffer
+    → wavWritten mode Published source buffer ≡ put buffer 0 (published rate (sampleBytes s 0 (lengthOf rate s)))
+wav-published mode source s buffer e h =
+    wav-handed mode Published source s buffer e h ∙ ap (put buffer 0) (sheet-published rate s (sheet-passes mode source s e))
 
 -- the header in the first 44 bytes, and a window in the bytes behind them
-pub wav-cut : (mode : Mode) (source : List ℕ) (s : Sheet) (h b : List ℕ) → sheetIn mode source ≡ going s → length h ≡ 44 → 2 * lengthOf rate s ≤ length b
-    → wavWritten mode source (h ++ b) ≡ headerWritten mode source h ++ windowWritten mode source 0 b 0
+pub wav-cut : (mode : Mode) (riff : Size) (source : List ℕ) (s : Sheet) (h b : List ℕ) → sheetIn mode source ≡ going s → length h ≡ 44 → 2 * lengthOf rate s ≤ length b
+    → wavWritten mode riff source (h ++ b) ≡ headerWritten mode riff source h ++ windowWritten mode source 0 b 0
 unfolding roomAt
-wav-cut mode source s h b e l m =
+wav-cut mode riff source s h b e l m =
     let p = sheet-passes mode source s e in
     let n = lengthOf rate s in
     let room : 44 + 2 * n ≤ length (h ++ b) = omega (arith, length-append h b) in
     let all : min ((length b - 0) / 2) (n - 0) ≡ n = omega arith in
-    wav-is mode source s e (h ++ b) room
-    ∙ both-put h b (headerBytes s) (sampleBytes s 0 n) (header-length (oldSize n) rate n ∙ sym l)
+    wav-is mode source s e riff (h ++ b) room
+    ∙ both-put h b (headerBytes riff s) (sampleBytes s 0 n) (header-length riff rate n ∙ sym l)
     ∙ sym
     (ap₂ (λ (x y : List ℕ). x ++ y)
-    (header-written mode source s e h ∙ header-put rate s h 44 (header-taken rate s h p (omega arith)))
+    (header-written mode source s e riff h ∙ header-put rate s h riff 44 (header-taken rate s h p (omega arith)))
     (window-written mode source s e 0 b 0 ∙ written-is rate s p 0 b 0 ∙ ap (λ (k : ℕ). put b 0 (sampleBytes s 0 k)) all))
 
 -- windows one after the other give the bytes of one large window, refusals and all

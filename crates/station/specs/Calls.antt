@@ -6,7 +6,8 @@ use mathlib.Core.List.{List, _++_}
 use Prim.Native.Nat.{ℕ, _+_, _-_, _*_, min}
 use lib.Dec.{leb, ltb}
 use lib.ListN.{length}
-use Rattle.form.specs.Form.{header, oldSize}
+use Rattle.form.specs.declared.size.Size.{Size}
+use Rattle.form.specs.Form.{header}
 use Rattle.form.specs.Sample.{bytesOf}
 use Rattle.wave.specs.File.{put, roomAt}
 use Rattle.sheet.specs.declared.sheet.Sheet.{Sheet}
@@ -62,16 +63,17 @@ headerAsked mode source room = do
   refuse 30 on 0 unless (leb 44 room)
   going 44
 
-abbrev pub headerBytes : Sheet → List ℕ
-headerBytes s = header (oldSize (lengthOf rate s)) rate (lengthOf rate s)
+-- with the RIFF size of a name
+abbrev pub headerBytes : Size → Sheet → List ℕ
+headerBytes riff s = header riff rate (lengthOf rate s)
 
-unfoldable pub headerWritten : Mode → List ℕ → List ℕ → List ℕ
-unfolding written sheetIn headerAsked header oldSize lengthOf
-headerWritten mode source buffer =
+unfoldable pub headerWritten : Mode → Size → List ℕ → List ℕ → List ℕ
+unfolding written sheetIn headerAsked header lengthOf
+headerWritten mode riff source buffer =
     written buffer 0 (do
       n ← headerAsked mode source (length buffer)
       s ← sheetIn mode source
-      going (headerBytes s))
+      going (headerBytes riff s))
 
 -- ---- a window
 
@@ -121,10 +123,10 @@ unfolding told sizeAsked wavAsked
 wavTold mode source room =
     record { count = told (sizeAsked mode source) .count; refusal = told (wavAsked mode source room) .refusal; line = told (wavAsked mode source room) .line }
 
-unfoldable pub wavWritten : Mode → List ℕ → List ℕ → List ℕ
-unfolding written sheetIn wavAsked header oldSize lengthOf bytesOf samplesFrom placed
-wavWritten mode source buffer =
+unfoldable pub wavWritten : Mode → Size → List ℕ → List ℕ → List ℕ
+unfolding written sheetIn wavAsked header lengthOf bytesOf samplesFrom placed
+wavWritten mode riff source buffer =
     written buffer 0 (do
       n ← wavAsked mode source (length buffer)
       s ← sheetIn mode source
-      going (headerBytes s ++ sampleBytes s 0 (lengthOf rate s)))
+      going (headerBytes riff s ++ sampleBytes s 0 (lengthOf rate s)))

@@ -3,12 +3,14 @@
 
 ghost use mathlib.Core.Path.{_≡_};
 ghost use lib.ListN.{length};
+ghost use Rattle.form.specs.Form.{sizeNumbered};
 ghost use Rattle.strict.specs.Strict.{modeNumbered};
 ghost use Rattle.station.specs.Calls.{told, samplesAsked, headerAsked, headerWritten, windowAsked, windowWritten, wavTold, wavWritten};
 use crate::told::header_of;
 use crate::told::samples_of;
 use crate::told::wav_of;
 use crate::told::window_of;
+use form::size::size_of;
 use strict::mode::mode_of;
 
 // How many samples a sheet has, 0 where it is refused.
@@ -29,12 +31,13 @@ pub extern "C" fn cue_samples(
     answer.count
 }
 
-// Writes the whole WAV file of a sheet to the buffer's start, and answers the file's size in bytes, also where the buffer is too short for it (30); 0 where
-// the text is refused.
+// Writes the whole WAV file of a sheet, with the RIFF size that a number names, to the buffer's start, and answers the file's size in bytes, also where the
+// buffer is too short for it (30); 0 where the text is refused.
 #[no_mangle]
 pub extern "C" fn cue_wav(
     source: &[u8],
     mode: u32,
+    riff: u32,
     buffer: &mut [u8],
     refusal: &mut u32,
     line: &mut usize,
@@ -42,19 +45,21 @@ pub extern "C" fn cue_wav(
     ensures size { λ r. ⌜ r ≡ wavTold (modeNumbered mode) (now (source .entry)) (length (now (buffer .entry))) .count ⌝ }
     ensures number { λ _. ⌜ now (refusal .exit) ≡ wavTold (modeNumbered mode) (now (source .entry)) (length (now (buffer .entry))) .refusal ⌝ }
     ensures line { λ _. ⌜ now (line .exit) ≡ wavTold (modeNumbered mode) (now (source .entry)) (length (now (buffer .entry))) .line ⌝ }
-    ensures bytes { λ _. ⌜ now (buffer .exit) ≡ wavWritten (modeNumbered mode) (now (source .entry)) (now (buffer .entry)) ⌝ }
+    ensures bytes { λ _. ⌜ now (buffer .exit) ≡ wavWritten (modeNumbered mode) (sizeNumbered riff) (now (source .entry)) (now (buffer .entry)) ⌝ }
 {
-    let answer = wav_of(source, mode_of(mode), buffer);
+    let answer = wav_of(source, mode_of(mode), size_of(riff), buffer);
     *refusal = answer.refusal;
     *line = answer.line;
     answer.count
 }
 
-// Writes the header of a sheet's file to the buffer's start, and answers its 44 bytes; 0 where the text is refused or the buffer has fewer (30).
+// Writes the header of a sheet's file, with the RIFF size that a number names, to the buffer's start, and answers its 44 bytes; 0 where the text is
+// refused or the buffer has fewer (30).
 #[no_mangle]
 pub extern "C" fn cue_header(
     source: &[u8],
     mode: u32,
+    riff: u32,
     buffer: &mut [u8],
     refusal: &mut u32,
     line: &mut usize,
@@ -62,9 +67,9 @@ pub extern "C" fn cue_header(
     ensures count { λ r. ⌜ r ≡ told (headerAsked (modeNumbered mode) (now (source .entry)) (length (now (buffer .entry)))) .count ⌝ }
     ensures number { λ _. ⌜ now (refusal .exit) ≡ told (headerAsked (modeNumbered mode) (now (source .entry)) (length (now (buffer .entry)))) .refusal ⌝ }
     ensures line { λ _. ⌜ now (line .exit) ≡ told (headerAsked (modeNumbered mode) (now (source .entry)) (length (now (buffer .entry)))) .line ⌝ }
-    ensures bytes { λ _. ⌜ now (buffer .exit) ≡ headerWritten (modeNumbered mode) (now (source .entry)) (now (buffer .entry)) ⌝ }
+    ensures bytes { λ _. ⌜ now (buffer .exit) ≡ headerWritten (modeNumbered mode) (sizeNumbered riff) (now (source .entry)) (now (buffer .entry)) ⌝ }
 {
-    let answer = header_of(source, mode_of(mode), buffer);
+    let answer = header_of(source, mode_of(mode), size_of(riff), buffer);
     *refusal = answer.refusal;
     *line = answer.line;
     answer.count

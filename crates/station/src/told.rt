@@ -6,6 +6,7 @@ ghost use Rattle.sheet.specs.Answers.{answered};
 ghost use Rattle.sheet.specs.Refusals.{going, refused};
 ghost use Rattle.station.specs.Calls.{told, samplesAsked, headerAsked, headerWritten, windowAsked, windowWritten, wavTold, wavWritten};
 use engine::file::write_header;
+use form::size::Size;
 use handed::check::check;
 use parser::reader::read;
 use sheet::answer::Answer;
@@ -62,16 +63,16 @@ pub(crate) fn samples_of(source: &[u8], mode: Mode) -> Told
     so_many(check(reading.sheet, 44100).length)
 }
 
-// The header of a text's file, in the buffer's first 44 bytes.
-pub(crate) fn header_of(source: &[u8], mode: Mode, buffer: &mut [u8]) -> Told
+// The header of a text's file, with the RIFF size of that name, in the buffer's first 44 bytes.
+pub(crate) fn header_of(source: &[u8], mode: Mode, riff: Size, buffer: &mut [u8]) -> Told
     ensures answer { λ r. ⌜ r ≡ told (headerAsked mode (now (source .entry)) (length (now (buffer .entry)))) ⌝ }
-    ensures bytes { λ _. ⌜ now (buffer .exit) ≡ headerWritten mode (now (source .entry)) (now (buffer .entry)) ⌝ }
+    ensures bytes { λ _. ⌜ now (buffer .exit) ≡ headerWritten mode riff (now (source .entry)) (now (buffer .entry)) ⌝ }
 {
     let reading = read(source, mode);
     if reading.refusal != 0 {
         return turned_away(reading.refusal, reading.line);
     }
-    told_of(write_header(reading.sheet, buffer, 44100))
+    told_of(write_header(reading.sheet, buffer, riff, 44100))
 }
 
 // The samples of a text from `start` on that exist and fit whole, as bytes from `place` on.
@@ -93,9 +94,9 @@ pub(crate) fn window_of(
 }
 
 // The whole file of a text, in the buffer's first bytes; the count is the file's size, also where the buffer has fewer.
-pub(crate) fn wav_of(source: &[u8], mode: Mode, buffer: &mut [u8]) -> Told
+pub(crate) fn wav_of(source: &[u8], mode: Mode, riff: Size, buffer: &mut [u8]) -> Told
     ensures answer { λ r. ⌜ r ≡ wavTold mode (now (source .entry)) (length (now (buffer .entry))) ⌝ }
-    ensures bytes { λ _. ⌜ now (buffer .exit) ≡ wavWritten mode (now (source .entry)) (now (buffer .entry)) ⌝ }
+    ensures bytes { λ _. ⌜ now (buffer .exit) ≡ wavWritten mode riff (now (source .entry)) (now (buffer .entry)) ⌝ }
 {
     let text = read(source, mode);
     if text.refusal != 0 {
@@ -109,7 +110,7 @@ pub(crate) fn wav_of(source: &[u8], mode: Mode, buffer: &mut [u8]) -> Told
             line: 0,
         };
     }
-    write_header(text.sheet, buffer, 44100);
+    write_header(text.sheet, buffer, riff, 44100);
     write_window(text.sheet, buffer, 44, 44100, 0);
     so_many(size)
 }

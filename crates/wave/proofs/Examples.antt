@@ -4,6 +4,7 @@ use mathlib.Core.Path.{_≡_, refl}
 use mathlib.Core.List.{[], _∷_}
 use lib.Ieee.{mul, lt}
 use Rattle.ieee.specs.Constants.{minusOne, one}
+use Rattle.form.specs.declared.size.Size.the-variants.{Published}
 use Rattle.wave.specs.File.{countIn, samplesIn, written, refused, fileTold, fileIn}
 
 -- two of three samples fit whole from place 1 of six bytes, none from a place past the end; the other bytes stay
@@ -21,6 +22,6 @@ pub files :
     × (fileTold 3 49 ≡ refused 30)
     × (fileTold 2000000000 4000000044 ≡ written 4000000044)
     × (fileTold 2000000001 9000000000 ≡ refused 30)
-    × (fileIn 44100 (one ∷ []) (9 ∷ 9 ∷ []) ≡ 9 ∷ 9 ∷ [])
+    × (fileIn Published 44100 (one ∷ []) (9 ∷ 9 ∷ []) ≡ 9 ∷ 9 ∷ [])
 unfolding fileTold fileIn
 files = (refl, refl, refl, refl, refl)

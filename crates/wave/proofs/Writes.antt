@@ -10,6 +10,7 @@ use borrow.Author.Tests.{le-leb}
 use lib.ListN.{length, take, drop, set, getD, length-append, length-drop, take-append-drop, drop-of-length-le}
 use lib.Seq.{sets, sets-eq, take-suc, take-all, take-length, length-take-le, take-at, drop-append-add, drop-drop}
 use lib.Ieee.{Float}
+use Rattle.form.specs.declared.size.Size.{Size}
 use Rattle.form.specs.Form.{header}
 use Rattle.form.specs.Sample.{sample16, word, sampleBytes, bytesOf}
 use Rattle.wave.specs.File.{put, countIn, samplesIn, headerIn}
@@ -124,7 +125,7 @@ one-byte-more b s i d h g =
 -- ---- a header, and samples right after it
 
 -- a buffer that has room takes the header
-pub header-put : (size rate n : ℕ) (b : List ℕ) → 44 ≤ length b → headerIn size rate n b ≡ put b 0 (header size rate n)
+pub header-put : (size : Size) (rate n : ℕ) (b : List ℕ) → 44 ≤ length b → headerIn size rate n b ≡ put b 0 (header size rate n)
 unfolding headerIn
 header-put size rate n b h = rw (le-leb _ _ h, headerIn)
 
@@ -136,7 +137,7 @@ samples-put b at xs h =
     rw (e, take-length xs)
 
 -- and after the header they make the file
-pub file-put : (size rate : ℕ) (xs : List Float) (b : List ℕ) → 44 + 2 * length xs ≤ length b
+pub file-put : (size : Size) (rate : ℕ) (xs : List Float) (b : List ℕ) → 44 + 2 * length xs ≤ length b
     → samplesIn (headerIn size rate (length xs) b) 44 xs ≡ put b 0 (header size rate (length xs) ++ bytesOf xs)
 file-put size rate xs b h =
     let s = header size rate (length xs) in

@@ -7,7 +7,8 @@ use Prim.Native.Nat.{ℕ, _+_, _-_, _*_, _/_, min}
 use lib.Dec.{leb}
 use lib.ListN.{length, take, drop}
 use lib.Ieee.{Float}
-use Rattle.form.specs.Form.{header, oldSize}
+use Rattle.form.specs.declared.size.Size.{Size}
+use Rattle.form.specs.Form.{header}
 use Rattle.form.specs.Sample.{bytesOf}
 use Rattle.wave.specs.declared.file.Written.{Written}
 use Rattle.wave.specs.declared.file.Written.the-variants.{Wrote, TooShort}
@@ -58,7 +59,7 @@ unfoldable pub headerTold : ℕ → Told
 headerTold room = elim (leb 44 room) [ true ↦ written 44 | false ↦ refused 30 ]
 
 -- and the buffer afterwards: the header in front, or every byte as it was
-unfoldable pub headerIn : ℕ → ℕ → ℕ → List ℕ → List ℕ
+unfoldable pub headerIn : Size → ℕ → ℕ → List ℕ → List ℕ
 unfolding put header
 headerIn size rate n buffer = elim (leb 44 (length buffer)) [ true ↦ put buffer 0 (header size rate n) | false ↦ buffer ]
 
@@ -78,8 +79,8 @@ unfolding fitsFile
 fileTold samples room = elim (fitsFile samples room) [ true ↦ written (44 + 2 * samples) | false ↦ refused 30 ]
 
 -- the buffer afterwards: the file in front, or every byte as it was
-unfoldable pub fileIn : ℕ → List Float → List ℕ → List ℕ
-unfolding fitsFile put header oldSize bytesOf
-fileIn rate xs buffer =
+unfoldable pub fileIn : Size → ℕ → List Float → List ℕ → List ℕ
+unfolding fitsFile put header bytesOf
+fileIn size rate xs buffer =
     elim (fitsFile (length xs) (length buffer))
-    [ true ↦ put buffer 0 (header (oldSize (length xs)) rate (length xs) ++ bytesOf xs) | false ↦ buffer ]
+    [ true ↦ put buffer 0 (header size rate (length xs) ++ bytesOf xs) | false ↦ buffer ]

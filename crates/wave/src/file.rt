@@ -3,6 +3,7 @@
 
 use form::header::header;
 use form::sample::sample;
+use form::size::Size;
 ghost use mathlib.Core.Path.{_≡_};
 ghost use Prim.Native.Nat.{_*_, _/_, _≤_, min};
 ghost use lib.ListN.{length, take};
@@ -65,9 +66,9 @@ fn store(buffer: &mut [u8], bytes: &[u8])
     }
 }
 
-// Writes the header of a file of n samples into the buffer's first 44 bytes. A buffer that has fewer
-// is refused, and then nothing is written.
-pub fn write_header(buffer: &mut [u8], size: u32, rate: u32, n: u32) -> Written
+// Writes the header of a file of n samples, with the RIFF size of that name, into the buffer's first
+// 44 bytes. A buffer that has fewer is refused, and then nothing is written.
+pub fn write_header(buffer: &mut [u8], size: Size, rate: u32, n: u32) -> Written
     ensures answer { λ r. ⌜ told r ≡ headerTold (length (now (buffer .entry))) ⌝ }
     ensures bytes { λ _. ⌜ now (buffer .exit) ≡ headerIn size rate n (now (buffer .entry)) ⌝ }
 {
@@ -81,9 +82,9 @@ pub fn write_header(buffer: &mut [u8], size: u32, rate: u32, n: u32) -> Written
 
 // Writes the file of the given n samples into the buffer's first 44 + 2n bytes. Over 2,000,000,000
 // samples or a buffer that has fewer bytes is refused, and then nothing is written.
-pub fn write_file(buffer: &mut [u8], samples: &[f32], rate: u32) -> Written
+pub fn write_file(buffer: &mut [u8], samples: &[f32], size: Size, rate: u32) -> Written
     ensures answer { λ r. ⌜ told r ≡ fileTold (length (now (samples .entry))) (length (now (buffer .entry))) ⌝ }
-    ensures bytes { λ _. ⌜ now (buffer .exit) ≡ fileIn rate (now (samples .entry)) (now (buffer .entry)) ⌝ }
+    ensures bytes { λ _. ⌜ now (buffer .exit) ≡ fileIn size rate (now (samples .entry)) (now (buffer .entry)) ⌝ }
 {
     let n = samples.len();
     if n > 2000000000 {
@@ -92,7 +93,7 @@ pub fn write_file(buffer: &mut [u8], samples: &[f32], rate: u32) -> Written
     if buffer.len() < 44 + 2 * n {
         return Written::TooShort;
     }
-    write_header(buffer, (32 + 2 * n) as u32, rate, n as u32);
+    write_header(buffer, size, rate, n as u32);
     write_samples(buffer, 44, samples);
     Written::Wrote(44 + 2 * n)
 }

@@ -11,7 +11,7 @@ hand-line-requires : tie.Need-hand-line-requires
 hand-line-requires c κs =
     let s = c .before .before .before .before .before in
     let r = c .before .before .before .read in
-    (s .pre, answer-line (s .args .mode) (s .args .source .now) (r .result) (r .ensures) (c .before .if1 .taken))
+    (s .pre, answer-line (s .args .mode) (s .args .source .now) (r .result) (r .ensures) (s .args .size) (c .before .if1 .taken))
 
 returns : tie.Need-returns
 returns c = search needs
@@ -20,7 +20,7 @@ hand-file-requires : tie.Need-hand-file-requires
 hand-file-requires c κs =
     let s = c .before .before .before .before .before in
     let r = c .before .before .before .read in
-    (s .pre, (answer-file (s .args .mode) (s .args .source .now) (r .result) (r .ensures) (c .before .if1 .left), read-passes (s .args .mode) (s .args .source .now) (r .result) (r .ensures)))
+    (s .pre, (answer-file (s .args .mode) (s .args .source .now) (r .result) (r .ensures) (s .args .size) (c .before .if1 .left), read-passes (s .args .mode) (s .args .source .now) (r .result) (r .ensures)))
 
 returns-2 : tie.Need-returns-2
 returns-2 c = search needs

@@ -16,10 +16,10 @@ use Rattle.cue.proofs.hand_file.Statement.{statement}
 use Rattle.cue.proofs.hand_file.Tie as tie
 
 abbrev Inv-loop : tie.InvT-loop
-Inv-loop mode source sheet reached₀ buffer₀ later₀ reached buffer later = (length buffer ≡ 65536) × ((reached ≡ later .at) × Begins (length (fileOf 44100 sheet)) (later .at))
+Inv-loop mode size source sheet reached₀ buffer₀ later₀ reached buffer later = (length buffer ≡ 65536) × ((reached ≡ later .at) × Begins (length (fileOf size 44100 sheet)) (later .at))
 
 abbrev μ-loop : tie.MeasureT-loop
-μ-loop mode source sheet reached₀ buffer₀ later₀ reached buffer later = left (later .taking) (length (fileOf 44100 sheet) - later .at)
+μ-loop mode size source sheet reached₀ buffer₀ later₀ reached buffer later = left (later .taking) (length (fileOf size 44100 sheet) - later .at)
 
 -- ---- a turn, once the piece is there
 
@@ -34,7 +34,7 @@ module _ (c : tie.After-next Inv-loop μ-loop) where
   sheet = from .args .sheet
 
   abbrev file : List ℕ
-  file = fileOf 44100 sheet
+  file = fileOf (from .args .size) 44100 sheet
 
   abbrev out : Output
   out = head .loop .later
@@ -45,26 +45,26 @@ module _ (c : tie.After-next Inv-loop μ-loop) where
   sized : length (c .next .last .1 .0) ≡ 65536
   sized =
       ap length (c .next .ensures .1 .1)
-      ∙ next-length 44100 sheet (head .loop .buffer) (c .before .place .result)
+      ∙ next-length (from .args .size) 44100 sheet (head .loop .buffer) (c .before .place .result)
       ∙ head .loop .inv .0
 
   piece : Piece (length file) (out .at) (c .next .result)
   piece =
       subst (Piece (length file) (out .at)) (sym count)
-      (piece-next sheet (from .pre .1 .1) (head .loop .buffer) (head .loop .inv .0) (out .at)
+      (piece-next (from .args .size) sheet (from .pre .1 .1) (head .loop .buffer) (head .loop .inv .0) (out .at)
       (head .loop .inv .1 .1))
 
   taking : out .taking ≡ true
   taking = sym (c .before .before .before .before .is-taking .ensures) ∙ c .before .before .before .if1 .taken
 
-  next-piece : Next (answerOf (from .args .mode) (from .args .source .now)) (out .at) (take (c .next .result) (c .next .last .1 .0))
+  next-piece : Next (answerOf (from .args .mode) (from .args .size) (from .args .source .now)) (out .at) (take (c .next .result) (c .next .last .1 .0))
   next-piece =
-      file-next (answerOf (from .args .mode) (from .args .source .now)) file _ (out .at) (c .next .result) (from .pre .1 .0)
-      (piece-bytes sheet (from .pre .1 .1) (head .loop .buffer) (head .loop .inv .0) (out .at)
+      file-next (answerOf (from .args .mode) (from .args .size) (from .args .source .now)) file _ (out .at) (c .next .result) (from .pre .1 .0)
+      (piece-bytes (from .args .size) sheet (from .pre .1 .1) (head .loop .buffer) (head .loop .inv .0) (out .at)
       (c .next .result) (c .next .last .1 .0) count
-      (c .next .ensures .1 .1 ∙ ap (nextIn 44100 sheet (head .loop .buffer)) (c .before .place .ensures))
+      (c .next .ensures .1 .1 ∙ ap (nextIn (from .args .size) 44100 sheet (head .loop .buffer)) (c .before .place .ensures))
       (piece .next .inside))
-      (c .next .ensures .0 .1) (piece .next .inside) (file-most sheet (from .pre .1 .1))
+      (c .next .ensures .0 .1) (piece .next .inside) (file-most (from .args .size) sheet (from .pre .1 .1))
 
 large-buffer-requires : tie.Need-large-buffer-requires Inv-loop μ-loop
 large-buffer-requires c κs = tt
@@ -72,7 +72,7 @@ large-buffer-requires c κs = tt
 loop-holds : tie.Need-loop-holds Inv-loop μ-loop
 loop-holds c =
     let s = c .before .before in
-    (sym (c .large-buffer .ensures), (s .pre .0 .0 .last, subst (Begins (length (fileOf 44100 (s .args .sheet)))) (sym (s .pre .0 .1)) (begins _)))
+    (sym (c .large-buffer .ensures), (s .pre .0 .0 .last, subst (Begins (length (fileOf (s .args .size) 44100 (s .args .sheet)))) (sym (s .pre .0 .1)) (begins _)))
 
 is-taking-requires : tie.Need-is-taking-requires Inv-loop μ-loop
 is-taking-requires c κs = tt

@@ -28,7 +28,7 @@ roomy a = omega (arith, a .before .before .buffer .ensures)
 within : (a : tie.After-refused-line) → Counts (a .refused-line .result) (a .refused-line .last .1 .1 .0)
 within a = line-within _ _ _ _ _ (roomy a) (a .refused-line .ensures .0) (a .refused-line .ensures .1) (a .refused-line .kept .1 .1 .0)
 
-line : (a : tie.After-refused-line) → take (a .refused-line .result) (a .refused-line .last .1 .1 .0) ≡ answerOf (a .before .before .before .before .args .mode) (a .before .before .before .before .args .source .now)
+line : (a : tie.After-refused-line) → take (a .refused-line .result) (a .refused-line .last .1 .1 .0) ≡ answerOf (a .before .before .before .before .args .mode) (a .before .before .before .before .args .size) (a .before .before .before .before .args .source .now)
 line a = line-taken _ _ _ _ _ (roomy a) (a .refused-line .ensures .0) (a .refused-line .ensures .1) ∙ sym (a .before .before .before .before .pre .1)
 
 array-share-prefix-text : tie.Need-array-share-prefix-text

@@ -1,12 +1,12 @@
 -- `write_header` asks 28 and 30 in their order; a sheet that passes has so few samples that the size field holds them. Assumes nothing.
 use mathlib.Core.Path.{_≡_, sym, ap, subst, _∙_}
 use mathlib.Core.Bool.{true, false}
-use Prim.Native.Nat.{ℕ, _+_, _*_, _≤_}
+use Prim.Native.Nat.{ℕ, _≤_}
 use native.Mathlib.Omega.{arith}
 use borrow.Author.Needs.{needs}
 use borrow.Author.Tests.{not-true, not-false}
 use lib.ListN.{length}
-use Rattle.form.specs.Form.{header, oldSize}
+use Rattle.form.specs.Form.{header}
 use Rattle.wave.specs.File.{put}
 use Rattle.wave.proofs.Writes.{header-put}
 use Rattle.sheet.specs.Answers.{answered}
@@ -18,11 +18,11 @@ use Rattle.engine.proofs.file.write_header.Statement.{statement}
 use Rattle.engine.proofs.file.write_header.Tie as tie
 
 -- a sheet that passes has at most 2,000,000,000 samples
-few : (c : tie.After-write-header-arg) → c .before .before .before .before .check .result .length ≤ 2000000000
+few : (c : tie.After-struct-known2) → c .before .before .before .before .before .check .result .length ≤ 2000000000
 few c =
-    let a = c .before .before .before .before .before .before .args in
-    let k = c .before .before .before .before .check in
-    let e : isSheet (a .rate) (a .sheet) ≡ true = sym (checked-passes (a .rate) (a .sheet) (k .result) (k .ensures)) ∙ not-false _ (c .before .before .if1 .left) in
+    let a = c .before .before .before .before .before .before .before .args in
+    let k = c .before .before .before .before .before .check in
+    let e : isSheet (a .rate) (a .sheet) ≡ true = sym (checked-passes (a .rate) (a .sheet) (k .result) (k .ensures)) ∙ not-false _ (c .before .before .before .if1 .left) in
     subst (λ (n : ℕ). n ≤ 2000000000) (sym (checked-length (a .rate) (a .sheet) (k .result) (k .ensures) e)) (passing (a .rate) (a .sheet) e .length)
 
 check-requires : tie.Need-check-requires
@@ -35,7 +35,7 @@ returns c =
     let k = c .before .before .check in
     let e : isSheet (a .rate) (a .sheet) ≡ false = sym (checked-passes (a .rate) (a .sheet) (k .result) (k .ensures)) ∙ not-true _ (c .if1 .taken) in
     let w = header-28 (a .rate) (a .sheet) (a .buffer .now) e in
-    (sym w, sym (header-refused (a .rate) (a .sheet) (a .buffer .now) 28 0 w))
+    (sym w, sym (header-refused (a .rate) (a .sheet) (a .buffer .now) (a .size) 28 0 w))
 
 returns-2 : tie.Need-returns-2
 unfolding answered
@@ -44,19 +44,10 @@ returns-2 c =
     let k = c .before .before .before .check in
     let e : isSheet (a .rate) (a .sheet) ≡ true = sym (checked-passes (a .rate) (a .sheet) (k .result) (k .ensures)) ∙ not-false _ (c .before .if1 .left) in
     let w = header-30 (a .rate) (a .sheet) (a .buffer .now) e (c .if2 .taken) in
-    (sym w, sym (header-refused (a .rate) (a .sheet) (a .buffer .now) 30 0 w))
-
-mul-write-header : tie.Need-mul-write-header
-mul-write-header c = record { fits = omega (arith, few c) }
-
-add-write-header : tie.Need-add-write-header
-add-write-header c = record { fits = omega (arith, few c) }
+    (sym w, sym (header-refused (a .rate) (a .sheet) (a .buffer .now) (a .size) 30 0 w))
 
 cast-write-header : tie.Need-cast-write-header
 cast-write-header c = record { fits = omega (arith, few c) }
-
-cast-write-header-2 : tie.Need-cast-write-header-2
-cast-write-header-2 c = record { fits = omega (arith, few c) }
 
 write-header-requires : tie.Need-write-header-requires
 write-header-requires c κs = search needs
@@ -65,20 +56,20 @@ same-length : tie.Need-same-length
 same-length c = search needs
 
 returns-3 : tie.Need-returns-3
-unfolding answered oldSize
+unfolding answered
 returns-3 c =
-    let a = c .before .before .before .before .before .before .before .before .before .args in
-    let k = c .before .before .before .before .before .before .before .check in
+    let a = c .before .before .before .before .before .before .before .before .before .before .args in
+    let k = c .before .before .before .before .before .before .before .before .check in
     let e : isSheet (a .rate) (a .sheet) ≡ true =
-    sym (checked-passes (a .rate) (a .sheet) (k .result) (k .ensures)) ∙ not-false _ (c .before .before .before .before .before .if1 .left) in
+    sym (checked-passes (a .rate) (a .sheet) (k .result) (k .ensures)) ∙ not-false _ (c .before .before .before .before .before .before .if1 .left) in
     let n = checked-length (a .rate) (a .sheet) (k .result) (k .ensures) e in
-    let l : 44 ≤ length (a .buffer .now) = c .before .before .before .before .if2 .left in
+    let l : 44 ≤ length (a .buffer .now) = c .before .before .before .before .before .if2 .left in
     let w = header-taken (a .rate) (a .sheet) (a .buffer .now) e l in (
       sym w,
       c .before .before .write-header .ensures .1
-          ∙ header-put _ (a .rate) _ (a .buffer .now) l
-          ∙ ap (λ (m : ℕ). put (a .buffer .now) 0 (header (32 + 2 * m) (a .rate) m)) n
-          ∙ sym (header-written (a .rate) (a .sheet) (a .buffer .now) 44 w),
+          ∙ header-put (a .size) (a .rate) _ (a .buffer .now) l
+          ∙ ap (λ (m : ℕ). put (a .buffer .now) 0 (header (a .size) (a .rate) m)) n
+          ∙ sym (header-written (a .rate) (a .sheet) (a .buffer .now) (a .size) 44 w),
     )
 
 pub write-header-spec : {M : Type 1} → statement M
@@ -88,10 +79,7 @@ write-header-spec =
     check-requires
     returns
     returns-2
-    mul-write-header
-    add-write-header
     cast-write-header
-    cast-write-header-2
     write-header-requires
     same-length
     returns-3)

@@ -5,7 +5,8 @@ use native.Mathlib.Omega.{arith}
 use borrow.Author.Needs.{needs}
 use lib.ListN.{length}
 use Rattle.engine.specs.Stream.{countIn, nextOf, nextIn}
-use Rattle.engine.proofs.HandedOn.{next-first, header-next, next-samples, samples-next, none-handed, next-in-header, next-in-sample, count-most}
+use Rattle.engine.proofs.Counted.{next-first, next-samples, next-in-header, next-in-sample, count-most}
+use Rattle.engine.proofs.HandedOn.{header-next, samples-next, none-handed}
 use Rattle.engine.proofs.stream.next_bytes.Statement.{statement}
 use Rattle.engine.proofs.stream.next_bytes.Tie as tie
 
@@ -31,20 +32,20 @@ returns c =
           ∙ ap countIn (w .0)
           ∙ sym (next-first (a .rate) (a .sheet) (a .buffer .now))
           ∙ ap (nextOf (a .rate) (a .sheet) (length (a .buffer .now))) (sym z),
-      w .1 ∙ header-next (a .rate) (a .sheet) (a .buffer .now) ∙ ap (nextIn (a .rate) (a .sheet) (a .buffer .now)) (sym z),
+      w .1 ∙ header-next (a .size) (a .rate) (a .sheet) (a .buffer .now) ∙ ap (nextIn (a .size) (a .rate) (a .sheet) (a .buffer .now)) (sym z),
     )
 
 returns-2 : tie.Need-returns-2
 returns-2 c =
     let a = c .before .before .before .args in
     let n = next-in-header (a .rate) (a .sheet) (a .buffer .now) (a .at) (c .before .if1 .left) (c .if2 .taken) in
-    (n, none-handed (a .rate) (a .sheet) (a .buffer .now) (a .at) (sym n))
+    (n, none-handed (a .size) (a .rate) (a .sheet) (a .buffer .now) (a .at) (sym n))
 
 returns-3 : tie.Need-returns-3
 returns-3 c =
     let a = c .before .before .before .before .args in
     let n = next-in-sample (a .rate) (a .sheet) (a .buffer .now) (a .at) (c .before .if2 .left) (c .if3 .taken) in
-    (n, none-handed (a .rate) (a .sheet) (a .buffer .now) (a .at) (sym n))
+    (n, none-handed (a .size) (a .rate) (a .sheet) (a .buffer .now) (a .at) (sym n))
 
 write-window-requires : tie.Need-write-window-requires
 write-window-requires c κs = search needs
@@ -68,7 +69,7 @@ returns-4 c =
     let i = (a .at - 44) / 2 in
     let h : a .at ≡ 44 + 2 * i = even-place (a .at) (c .before .before .before .before .before .before .if2 .left) (c .before .before .before .before .before .if3 .left) in (
       ap (λ (n : ℕ). 2 * n) (c .count-of2 .ensures ∙ ap countIn (w .0)) ∙ sym (next-samples (a .rate) (a .sheet) (a .buffer .now) (a .at) i h),
-      w .1 ∙ samples-next (a .rate) (a .sheet) (a .buffer .now) (a .at) i h,
+      w .1 ∙ samples-next (a .size) (a .rate) (a .sheet) (a .buffer .now) (a .at) i h,
     )
 
 pub next-bytes-spec : {M : Type 1} → statement M

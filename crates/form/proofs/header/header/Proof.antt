@@ -4,6 +4,9 @@ use Rattle.form.specs.Form.{header}
 use Rattle.form.proofs.header.header.Statement.{statement}
 use Rattle.form.proofs.header.header.Tie as tie
 
+field-requires : tie.Need-field-requires
+field-requires c κs = search needs
+
 with-number-requires : tie.Need-with-number-requires
 with-number-requires c κs = search needs
 
@@ -24,12 +27,13 @@ with-number-requires-4 c κs = search needs
 
 returns : tie.Need-returns
 unfolding header
-returns c = rw (c .with-number4 .ensures, c .before .with-number3 .ensures, c .before .before .with-number2 .ensures, c .before .before .before .with-number .ensures)
+returns c = rw (c .with-number4 .ensures, c .before .with-number3 .ensures, c .before .before .with-number2 .ensures, c .before .before .before .with-number .ensures, c .before .before .before .before .field .ensures)
 
 pub header-spec : {M : Type 1} → statement M
 header-spec =
     tie.close
     (tie.spec
+    field-requires
     with-number-requires
     with-number-requires-2
     mul-with-number

@@ -19,7 +19,7 @@ returns c =
     let a = c .before .before .before .before .before .before .args in
     let q = c .before .before .before .read in
     let e = text-refused (a .mode) (a .source .now) (q .result) (q .ensures) (c .before .if1 .taken) in
-    (c .turned-away .ensures ∙ sym (ap told (header-refused (a .mode) (a .source .now) _ _ e (length (a .buffer .now)))), sym (header-kept (a .mode) (a .source .now) _ _ e (a .buffer .now)))
+    (c .turned-away .ensures ∙ sym (ap told (header-refused (a .mode) (a .source .now) _ _ e (length (a .buffer .now)))), sym (header-kept (a .mode) (a .source .now) _ _ e (a .riff) (a .buffer .now)))
 
 write-header-requires : tie.Need-write-header-requires
 write-header-requires c κs = search needs
@@ -36,7 +36,7 @@ returns-2 c =
     let q = c .before .before .before .before .before .before .before .read in
     let w = c .before .before .before .write-header .ensures in
     let e = text-going (a .mode) (a .source .now) (q .result) (q .ensures) (c .before .before .before .before .before .if1 .left) in
-    (c .told-of .ensures ∙ ap told (w .0 ∙ sym (header-going (a .mode) (a .source .now) _ e (length (a .buffer .now)))), w .1 ∙ sym (header-written (a .mode) (a .source .now) _ e (a .buffer .now)))
+    (c .told-of .ensures ∙ ap told (w .0 ∙ sym (header-going (a .mode) (a .source .now) _ e (length (a .buffer .now)))), w .1 ∙ sym (header-written (a .mode) (a .source .now) _ e (a .riff) (a .buffer .now)))
 
 pub header-of-spec : {M : Type 1} → statement M
 header-of-spec = tie.close (tie.spec read-requires turned-away-requires returns write-header-requires told-of-requires same-length returns-2)

@@ -37,7 +37,7 @@ returns c =
     let a = c .before .before .before .before .before .before .args in
     let q = c .before .before .before .read in
     let e = text-refused (a .mode) (a .source .now) (q .result) (q .ensures) (c .before .if1 .taken) in
-    (c .turned-away .ensures ∙ sym (wav-told-refused (a .mode) (a .source .now) _ _ e (length (a .buffer .now))), sym (wav-kept (a .mode) (a .source .now) _ _ e (a .buffer .now)))
+    (c .turned-away .ensures ∙ sym (wav-told-refused (a .mode) (a .source .now) _ _ e (length (a .buffer .now))), sym (wav-kept (a .mode) (a .source .now) _ _ e (a .riff) (a .buffer .now)))
 
 check-requires : tie.Need-check-requires
 check-requires c κs = search needs
@@ -55,7 +55,7 @@ returns-2 c =
     let n = counted (c .before) in
     let short : length (a .buffer .now) < 44 + 2 * lengthOf 44100 (c .before .before .before .before .before .read .result .sheet) = subst (λ (k : ℕ). length (a .buffer .now) < 44 + 2 * k) n (c .if2 .taken) in (
       ap (λ (k : ℕ). record { count = 44 + 2 * k; refusal = 30; line = 0 }) n ∙ sym (wav-told-short (a .mode) (a .source .now) _ e (length (a .buffer .now)) short),
-      sym (wav-short-kept (a .mode) (a .source .now) _ e (a .buffer .now) short),
+      sym (wav-short-kept (a .mode) (a .source .now) _ e (a .riff) (a .buffer .now) short),
     )
 
 write-header-requires : tie.Need-write-header-requires
@@ -81,7 +81,7 @@ returns-3 c =
       c .so-many .ensures ∙ ap (λ (m : ℕ). told (going (44 + 2 * m))) n ∙ sym (wav-told-room (a .mode) (a .source .now) s e (length (a .buffer .now)) room),
       c .before .before .before .write-window .ensures .1
           ∙ ap (λ (t : List ℕ). writtenIn 44100 s 0 t 44) (c .before .before .before .before .before .before .before .write-header .ensures .1)
-          ∙ wav-pieces (a .mode) (a .source .now) s e (a .buffer .now) room,
+          ∙ wav-pieces (a .mode) (a .source .now) s e (a .riff) (a .buffer .now) room,
     )
 
 pub wav-of-spec : {M : Type 1} → statement M

@@ -21,9 +21,6 @@ data-fits n h = omega arith
 size-fits : (k n : ℕ) → k ≤ 44 → n ≤ 2000000000 → Fits w64 (k + 2 * n)
 size-fits k n l h = omega arith
 
-size-field : (k n : ℕ) → k ≤ 44 → n ≤ 2000000000 → Fits w32 (k + 2 * n)
-size-field k n l h = omega arith
-
 count-field : (n : ℕ) → n ≤ 2000000000 → Fits w32 n
 count-field n h = omega arith
 
@@ -43,17 +40,8 @@ returns-2 c =
     let few = c .before .if1 .left in
     (rw (le-leb _ _ few, lt-leb _ _ (c .if2 .taken), fileTold), rw (le-leb _ _ few, lt-leb _ _ (c .if2 .taken), fileIn))
 
-mul-write-header : tie.Need-mul-write-header
-mul-write-header c = data-fits _ (c .before .before .if1 .left)
-
-add-write-header : tie.Need-add-write-header
-add-write-header c = size-fits _ _ (lit≤ tt) (c .before .before .if1 .left)
-
 cast-write-header : tie.Need-cast-write-header
-cast-write-header c = size-field _ _ (lit≤ tt) (c .before .before .if1 .left)
-
-cast-write-header-2 : tie.Need-cast-write-header-2
-cast-write-header-2 c = count-field _ (c .before .before .if1 .left)
+cast-write-header c = count-field _ (c .before .before .if1 .left)
 
 write-header-requires : tie.Need-write-header-requires
 write-header-requires c κs = search needs
@@ -61,11 +49,11 @@ write-header-requires c κs = search needs
 write-samples-requires : tie.Need-write-samples-requires
 write-samples-requires c κs = search needs
 
-mul-t6 : tie.Need-mul-t6
-mul-t6 c = data-fits _ (c .before .before .before .before .before .before .before .before .before .if1 .left)
+mul-t8 : tie.Need-mul-t8
+mul-t8 c = data-fits _ (c .before .before .before .before .before .before .before .before .before .if1 .left)
 
-add-t8 : tie.Need-add-t8
-add-t8 c = size-fits _ _ (lit≤ tt) (c .before .before .before .before .before .before .before .before .before .if1 .left)
+add-t7 : tie.Need-add-t7
+add-t7 c = size-fits _ _ (lit≤ tt) (c .before .before .before .before .before .before .before .before .before .if1 .left)
 
 same-length : tie.Need-same-length
 same-length c = search needs
@@ -81,7 +69,7 @@ returns-3 c =
       rw (le-leb _ _ few, le-leb _ _ room, fileIn)
           (c .before .before .write-samples .ensures .1
           ∙ ap (λ (b : List ℕ). samplesIn b 44 (s .args .samples .now)) (w .write-header .ensures .1)
-          ∙ file-put _ (s .args .rate) (s .args .samples .now) (s .args .buffer .now) room),
+          ∙ file-put (s .args .size) (s .args .rate) (s .args .samples .now) (s .args .buffer .now) room),
     )
 
 pub write-file-spec : {M : Type 1} → statement M
@@ -92,13 +80,10 @@ write-file-spec =
     mul-if2
     add-if2
     returns-2
-    mul-write-header
-    add-write-header
     cast-write-header
-    cast-write-header-2
     write-header-requires
     write-samples-requires
-    mul-t6
-    add-t8
+    mul-t8
+    add-t7
     same-length
     returns-3)
