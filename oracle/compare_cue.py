@@ -1,26 +1,31 @@
 """Compares the program `cue` with the model and the Rust, sheet by sheet: hand-made, generated ones and some aimed at each refusal.
 
-The answer to every sheet is `refused N L` as the model says, or a WAV file: byte for byte that of the Rust that has document 01's sine,
-power and order of parts, or where that would take long its header. In the domain the Rust's `Err` comes exactly where the refusal is one
-of 3 to 18, 25 and 26.
-In strict mode, as `cue strict`, the answer is the same, or `refused 32 L` as the model says.
+The answer to every sheet is `refused N L` as the model says, or a WAV file. With the old RIFF size, as `cue old-size`, that is byte for byte the
+file of the Rust that has document 01's sine, power and order of parts; without a word it is other in the four bytes of the size alone. Each file is
+held under one of the two names, the hand-made sheets' under both; where the file would take long its header is. In the domain the Rust's `Err`
+comes exactly where the refusal is one of 3 to 18, 25 and 26. In strict mode, as `cue strict`, the answer is the same, or `refused 32 L` as the
+model says.
 """
 
 from collections import Counter
 
 import judged
-from compare_wave import HEADER_BYTES, RATE, form
+from compare_wave import RATE
 from harness import command_of, first_of, hold_each, proved, rust
 from judged import ACCEPTED, NUMBERS, WITH_TAIL
+from riff import HEADER_BYTES, OLD, PUBLISHED, header_of, sized
 
 COUNT = 6_000
+# The words that the program is started with, and the RIFF size that it then writes: read plainly, and strictly.
+PLAINLY = (((), PUBLISHED), (("old-size",), OLD))
+STRICTLY = ((("strict",), PUBLISHED), (("strict", "old-size"), OLD), (("old-size", "strict"), OLD))
 # For each refusal number one aimed sheet to so many generated ones.
 AIMED = 200
 # Of a file that is longer, or that costs more to render, the header is enough.
 LONGEST = 1_000_000
 DEAREST = 3_000_000
 # Of the generated sheets so many are read strictly too, and one with tails, or with what looks like one, to so many of all.
-STRICTLY = 1_000
+READ_STRICTLY = 1_000
 TAILED = 10
 REFUSALS = dict(zip(NUMBERS, (
     *(55, 165, 95, 88, 80, 130, 155, 180, 105),
@@ -28,7 +33,8 @@ REFUSALS = dict(zip(NUMBERS, (
     *(97, 95, 105, 58, 52, 70, 100, 90, 58),
 ), strict=True))
 FLOORS = {
-    "files": 2_250,
+    "files": 2_400,
+    "of the old size": 1_500,
     "samples": 325_000_000,
     "headers of longer files": 640,
     "in the domain": 5_100,
@@ -40,27 +46,36 @@ FLOORS = {
 }
 
 
-def file_case(sheet):
-    return sheet.case(sheet.text, rust("ruled", "wav")(sheet.text))
+def file_case(sheet, number):
+    return sheet.case(sheet.text, sized(number, rust("ruled", "wav")(sheet.text)))
 
 
-def refusal_case(sheet):
+def refusal_case(sheet, number):
+    """Whatever the size, a refusal is the same."""
     return sheet.case(sheet.text, f"{sheet.answer[0]}\n".encode("ascii"))
 
 
-def header_case(sheet):
-    return sheet.case(sheet.text, form(32 + 2 * sheet.length, RATE, sheet.length))
+def header_case(sheet, number):
+    return sheet.case(sheet.text, header_of(number, RATE, sheet.length))
 
 
-def strict_case(sheet):
+def strict_case(sheet, number):
     """In strict mode: the line of the refusal, or plain mode's file."""
     if sheet.strict_verdict == ACCEPTED:
-        return file_case(sheet)
+        return file_case(sheet, number)
     return sheet.case(sheet.text, f"{sheet.strict[0]}\n".encode("ascii"))
 
 
-def header_of(text, seconds):
-    return first_of("cue", command_of("cue"), text, HEADER_BYTES, seconds)
+def front_by(*words):
+    """Asks the program that is started with these words for the first bytes of a file."""
+    return lambda text, seconds: first_of("cue", command_of("cue") + list(words), text, HEADER_BYTES, seconds)
+
+
+def hold_by(ways, sheets, case_of, asked=lambda *words: proved("cue", *words)):
+    """Holds the sheets in turn in one of the ways that the program can be started; how many were to have the old size."""
+    for i, (words, number) in enumerate(ways):
+        hold_each(" ".join(("cue", *words)), asked(*words), sheets[i :: len(ways)], lambda sheet: case_of(sheet, number))
+    return sum(len(sheets[i :: len(ways)]) for i, (_, number) in enumerate(ways) if number == OLD)
 
 
 def is_short(sheet):
@@ -73,17 +88,20 @@ def compare(seed, count):
     refused, files, longer = [], [], []
     for sheet in sheets:
         (refused if sheet.number else files if is_short(sheet) else longer).append(sheet)
-    hold_each("cue", proved("cue"), refused, refusal_case)
-    hold_each("cue", proved("cue"), files, file_case)
-    hold_each("cue", header_of, longer, header_case)
-    strictly = judged.hand_made() + sheets[len(judged.hand_made()) :][:STRICTLY] + judged.tailed(seed, 1 + count // TAILED)
+    hold_by(PLAINLY, refused, refusal_case)
+    # The hand-made ones stand first among the files, so that each is held under its other name here.
+    by_hand = [sheet for sheet in judged.hand_made() if not sheet.number and is_short(sheet)]
+    old = hold_by(PLAINLY, files, file_case) + hold_by(PLAINLY[::-1], by_hand, file_case)
+    old += hold_by(PLAINLY, longer, header_case, front_by)
+    strictly = judged.hand_made() + sheets[len(judged.hand_made()) :][:READ_STRICTLY] + judged.tailed(seed, 1 + count // TAILED)
     strictly = [sheet for sheet in strictly if is_short(sheet) or sheet.strict_verdict != ACCEPTED]
-    hold_each("cue strict", proved("cue", "strict"), strictly, strict_case)
+    hold_by(STRICTLY, strictly, strict_case)
     return Counter(sheet.verdict for sheet in refused) + Counter({
         "strictly": len(strictly),
         "strictly files": sum(sheet.strict_verdict == ACCEPTED for sheet in strictly),
         "strictly refused 32": sum(sheet.strict_verdict == WITH_TAIL for sheet in strictly),
-        "files": len(files),
+        "files": len(files) + len(by_hand),
+        "of the old size": old,
         "samples": sum(sheet.length for sheet in files),
         "headers of longer files": len(longer),
         "in the domain": sum(sheet.in_domain for sheet in sheets),

@@ -10,6 +10,7 @@ from itertools import chain
 import model
 from dice import Dice
 from harness import Broken, Case, both_at_once, escape, hold, proved, rust
+from riff import ALSO_PUBLISHED, OLD, PUBLISHED
 from sheets import sheets
 from sound_requests import BYTES, HEADER, SAMPLES, Asked, Sound
 
@@ -21,11 +22,11 @@ FLOORS = {
     "sheets of several parts": 110,
     "windows of samples": 2_700,
     "windows of bytes": 4_700,
-    "headers": 1_800,
+    "headers": 2_900,
     "samples": 2_000_000,
     "refused 28": 2_300,
     "refused 29": 400,
-    "refused 30": 2_000,
+    "refused 30": 2_450,
     "odd but in range": 450,
 }
 ASK = proved("ask_engine")
@@ -90,7 +91,9 @@ def windows(dice, length):
 
 
 def headers(dice):
-    return [Asked(HEADER, room=room) for room in (0, 43, 44, 44 + dice.below(99))]
+    """The header with each RIFF size, and by a number that stands for none."""
+    rooms = (0, 43, 44, 44 + dice.below(99))
+    return [Asked(HEADER, number, room) for number in (PUBLISHED, OLD) for room in rooms] + [Asked(HEADER, dice.pick(ALSO_PUBLISHED), 60)]
 
 
 def out_of_range(dice, sheet):

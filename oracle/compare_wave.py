@@ -1,8 +1,8 @@
 """Compares the proved WAV bytes, by the program `ask_wave`, with the Rust's: files, windows and headers, every byte of the buffer.
 
-Every place at which a sample's 16-bit number changes is tried with its neighbours, and every small buffer with every place in it. The
-bytes of samples are the given Rust's. What it has no say in is worked out here: which bytes stay as they were, what is refused, and
-the header at other rates and sizes than the Rust's own. crates/ask_wave/README.md has the form of a request and of an answer.
+Every place at which a sample's 16-bit number changes is tried with its neighbours, and every small buffer with every place in it. A file
+with the old RIFF size is the given Rust's, byte for byte; with the published one it differs in the size's four bytes alone. What the Rust has
+no say in is worked out here: which bytes stay as they were, what is refused, and the header at other rates. crates/ask_wave/README.md has the form of a request and of an answer.
 """
 
 import struct
@@ -14,15 +14,15 @@ import f32
 from dice import Dice
 from f32 import INFINITY, ONE, SIGN, packed
 from harness import Broken, Case, hold, proved, rust
+from riff import ALSO_PUBLISHED, HEADER_BYTES, OLD, PUBLISHED, header_of, sized
 
 # Files of thrown samples, twice.
 COUNT = 64
-FLOORS = {"samples": 2_900_000, "files": 1_300, "windows": 8_200, "headers": 135, "refused": 1_100}
+FLOORS = {"samples": 3_000_000, "files": 2_500, "windows": 8_200, "headers": 650, "of the old size": 1_400, "refused": 2_250}
 ASK, RUST = proved("ask_wave"), rust("given", "samples")
 FILE, WINDOW, HEADER = 0, 1, 2
 RATE = 44_100
 TOO_SHORT = 30
-HEADER_BYTES = 44
 # What ask_wave has room for, and what its buffer holds before it is written to.
 MOST_SAMPLES = 16_384
 MOST_ROOM = 65_536
@@ -46,18 +46,11 @@ FAR = 2**32 - 1
 # ---- what must be answered
 
 
-def form(size, rate, count):
-    """A header in the published form; what four bytes cannot hold loses its upper part."""
-    low = [v % 2**32 for v in (size, rate, 2 * rate, 2 * count)]
-    chunk = struct.pack("<4sIHHIIHH", b"fmt ", 16, 1, 1, low[1], low[2], 2, 16)
-    return struct.pack("<4sI4s", b"RIFF", low[0], b"WAVE") + chunk + struct.pack("<4sI", b"data", low[3])
-
-
 @lru_cache(maxsize=64)
 def rust_bytes(samples):
-    """The WAV bytes that the given Rust makes of samples. Its header must be `form`'s."""
+    """The WAV bytes that the given Rust makes of samples. Its header must be the form's with the old size."""
     made, count = RUST(samples), len(samples) // 4
-    if made[:HEADER_BYTES] != form(32 + 2 * count, RATE, count):
+    if made[:HEADER_BYTES] != header_of(OLD, RATE, count):
         raise Broken(f"the Rust's header of {count} samples is not the form's")
     return made
 
@@ -70,16 +63,18 @@ def asked(kind, room, place, rate, samples=b"", count=None, refusal=0, told=0, w
     at = place if kind == WINDOW else 0
     buffer = PATTERN[:at] + written + PATTERN[at + len(written) :]
     sampled = {FILE: max(told - HEADER_BYTES, 0) // 2, WINDOW: told, HEADER: 0}[kind]
-    counts = {("files", "windows", "headers")[kind]: 1, "samples": sampled, "refused": int(refusal != 0)}
+    old = int(kind != WINDOW and place == OLD)
+    counts = {("files", "windows", "headers")[kind]: 1, "of the old size": old, "samples": sampled, "refused": int(refusal != 0)}
     return Case(words, request, struct.pack("<2Q", refusal, told) + buffer[:room], counts)
 
 
-def file(room, samples, rate=RATE):
-    count = len(samples) // 4
-    whole = form(32 + 2 * count, rate, count) + rust_bytes(samples)[HEADER_BYTES:]
+def file(room, samples, number, rate=RATE):
+    whole = sized(number, rust_bytes(samples))
+    if rate != RATE:
+        whole = header_of(number, rate, len(samples) // 4) + whole[HEADER_BYTES:]
     if len(whole) > room:
-        return asked(FILE, room, 0, rate, samples, refusal=TOO_SHORT)
-    return asked(FILE, room, 0, rate, samples, told=len(whole), written=whole)
+        return asked(FILE, room, number, rate, samples, refusal=TOO_SHORT)
+    return asked(FILE, room, number, rate, samples, told=len(whole), written=whole)
 
 
 def window(room, place, samples):
@@ -88,10 +83,10 @@ def window(room, place, samples):
     return asked(WINDOW, room, place, 0, samples, told=fit, written=written)
 
 
-def header(room, size, rate, count):
+def header(room, number, rate, count):
     if room < HEADER_BYTES:
-        return asked(HEADER, room, size, rate, count=count, refusal=TOO_SHORT)
-    return asked(HEADER, room, size, rate, count=count, told=HEADER_BYTES, written=form(size, rate, count))
+        return asked(HEADER, room, number, rate, count=count, refusal=TOO_SHORT)
+    return asked(HEADER, room, number, rate, count=count, told=HEADER_BYTES, written=header_of(number, rate, count))
 
 
 # ---- what is asked
@@ -118,20 +113,20 @@ def signed(patterns):
     return [pattern | sign for pattern in patterns for sign in (0, SIGN)]
 
 
-def filled(patterns):
+def filled(patterns, number):
     """A file of the patterns that is exactly as long as its buffer."""
-    return file(HEADER_BYTES + 2 * len(patterns), packed(patterns))
+    return file(HEADER_BYTES + 2 * len(patterns), packed(patterns), number)
 
 
 def every_sample(dice, files):
     """Special floats, all boundaries, and so many files of thrown floats, twice."""
-    yield filled(signed(SPECIAL))
+    yield filled(signed(SPECIAL), OLD)
     near = boundaries()
     for start in range(0, len(near), IN_A_FILE):
-        yield filled(near[start : start + IN_A_FILE])
-    for _ in range(files):
-        yield filled(thrown(dice, IN_A_FILE))
-        yield filled(audible(thrown(dice, IN_A_FILE)))
+        yield filled(near[start : start + IN_A_FILE], OLD)
+    for i in range(files):
+        yield filled(thrown(dice, IN_A_FILE), (OLD, PUBLISHED)[i % 2])
+        yield filled(audible(thrown(dice, IN_A_FILE)), (OLD, PUBLISHED)[i % 2])
 
 
 def every_length(samples):
@@ -139,7 +134,8 @@ def every_length(samples):
     for n in range(SOME + 1):
         some = samples[: 4 * n]
         for room in range(HEADER_BYTES + 2 * n + 4):
-            yield file(room, some)
+            yield file(room, some, PUBLISHED)
+            yield file(room, some, OLD)
         for room in range(2 * n + 5):
             for place in (*range(room + 3), FAR):
                 yield window(room, place, some)
@@ -150,22 +146,25 @@ def larger(samples):
         some = samples[: 4 * n]
         whole = HEADER_BYTES + 2 * n
         for room in (0, 43, 44, whole - 2, whole - 1, whole, whole + 1, whole + 500, MOST_ROOM):
-            yield file(room, some)
+            yield file(room, some, PUBLISHED)
+            yield file(room, some, OLD)
             for place in (0, 1, 43, 44, room // 2, room - 2, room - 1, room, room + 1, FAR):
                 if place >= 0:
                     yield window(room, place, some)
 
 
 def every_header(samples):
-    """Each buffer up to one that is longer than the header, and numbers of every size."""
+    """Each buffer up to one that is longer than the header, numbers of every size, and each name of the RIFF size."""
     numbers = (0, 1, 255, 256, 44_100, 48_000, 65_536, 2_000_000_000, 2**31 - 1, 2**31, FAR)
     for room in range(HEADER_BYTES + 7):
-        yield header(room, 32 + 2 * room, RATE, room)
+        yield header(room, PUBLISHED, RATE, room)
+        yield header(room, OLD, RATE, room)
     for k, rate in enumerate(numbers):
         some = samples[: 4 * k]
-        yield file(HEADER_BYTES + len(some) // 2, some, rate)
-        for size, count in zip(numbers, reversed(numbers)):
-            yield header(50, size, rate, count)
+        for number in (PUBLISHED, OLD, *ALSO_PUBLISHED):
+            yield file(HEADER_BYTES + len(some) // 2, some, number, rate)
+            for count in (*numbers, 2**31 - 18, 2**31 - 16):
+                yield header(50, number, rate, count)
 
 
 def cases(dice, files):
@@ -203,21 +202,23 @@ def kept():
     specials = packed(signed(SPECIAL))
     middle = packed(boundaries()[5 * 32_768 - 50 : 5 * 32_768 + 50])
     chosen = [
-        file(44, b""),
-        file(43, b""),
-        file(44 + len(specials) // 2 + 9, specials),
-        file(44 + len(middle) // 2, middle),
-        file(44 + len(middle) // 2 - 1, middle),
+        file(44, b"", PUBLISHED),
+        file(43, b"", PUBLISHED),
+        file(44 + len(specials) // 2 + 9, specials, PUBLISHED),
+        file(44 + len(specials) // 2 + 9, specials, OLD),
+        file(44 + len(middle) // 2, middle, OLD),
+        file(44 + len(middle) // 2 - 1, middle, OLD),
         window(21, 8, middle),
         window(21, 22, middle),
-        header(48, 68, 48_000, 16),
-        header(43, 68, 48_000, 16),
+        header(48, PUBLISHED, 48_000, 16),
+        header(48, OLD, 48_000, 16),
+        header(43, OLD, 48_000, 16),
     ]
     requests, answers = (b"".join(part) for part in zip(*((case.request, case.wanted) for case in chosen)))
     return {"crates/ask_wave/stdin": requests, "crates/ask_wave/stdout": answers}
 
 
-def proved_file(count):
-    """A file of samples that lie all over -1 to 1, as the proved program writes it."""
+def proved_file(count, number):
+    """A file of samples that lie all over -1 to 1, as the proved program writes it with the RIFF size that a number stands for."""
     samples = packed(audible(thrown(Dice(1), count)))
-    return ASK(struct.pack("<5I", FILE, HEADER_BYTES + 2 * count, 0, RATE, count) + samples)[16:]
+    return ASK(struct.pack("<5I", FILE, HEADER_BYTES + 2 * count, number, RATE, count) + samples)[16:]

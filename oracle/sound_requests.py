@@ -7,6 +7,8 @@ its whole WAV file; what a window, a header or a refusal leaves in a buffer foll
 import struct
 from dataclasses import dataclass
 
+from riff import HEADER_BYTES, sized
+
 NONE, SAMPLES, HEADER, BYTES = 0, 0, 1, 2
 PATTERN = {SAMPLES: struct.pack("<f", 7.5), HEADER: b"\x5a", BYTES: b"\x5a"}
 NAN = struct.pack("<I", 0x7FC00000)
@@ -14,7 +16,7 @@ NAN = struct.pack("<I", 0x7FC00000)
 
 @dataclass
 class Asked:
-    """One request: what is put out of range, if anything, and what is written where."""
+    """One request: what is put out of range, if anything, and what is written where. Of a header, `start` says which RIFF size."""
 
     kind: int
     start: int = 0
@@ -65,7 +67,7 @@ class Sound:
     def judged(self, asked):
         """Refusal, count, what is written and where."""
         if asked.kind == HEADER:
-            return (0, 44, self.wav[:44], 0) if asked.room >= 44 else (30, 0, b"", 0)
+            return (0, HEADER_BYTES, sized(asked.start, self.wav)[:HEADER_BYTES], 0) if asked.room >= HEADER_BYTES else (30, 0, b"", 0)
         if asked.start > self.length:
             return 29, 0, b"", 0
         left = self.length - asked.start

@@ -4,8 +4,26 @@ use std::io::{self, BufRead, Read, Write};
 #[link(name = "station", kind = "static")]
 extern "C" {
     fn cue_samples(source: *const u8, len: usize, mode: u32, refusal: &mut u32, line: &mut usize) -> usize;
-    fn cue_wav(source: *const u8, len: usize, mode: u32, buffer: *mut u8, room: usize, refusal: &mut u32, line: &mut usize) -> usize;
-    fn cue_header(source: *const u8, len: usize, mode: u32, buffer: *mut u8, room: usize, refusal: &mut u32, line: &mut usize) -> usize;
+    fn cue_wav(
+        source: *const u8,
+        len: usize,
+        mode: u32,
+        riff_size: u32,
+        buffer: *mut u8,
+        room: usize,
+        refusal: &mut u32,
+        line: &mut usize,
+    ) -> usize;
+    fn cue_header(
+        source: *const u8,
+        len: usize,
+        mode: u32,
+        riff_size: u32,
+        buffer: *mut u8,
+        room: usize,
+        refusal: &mut u32,
+        line: &mut usize,
+    ) -> usize;
     fn cue_window(
         source: *const u8,
         len: usize,
@@ -20,7 +38,7 @@ extern "C" {
 }
 
 /// The count, the refusal's number and its line.
-fn called(call: usize, text: &[u8], mode: u32, start: usize, buffer: &mut [u8], place: usize) -> (usize, u32, usize) {
+fn called(call: usize, text: &[u8], (mode, riff_size): (u32, u32), start: usize, buffer: &mut [u8], place: usize) -> (usize, u32, usize) {
     let (source, len, room) = (text.as_ptr(), text.len(), buffer.len());
     let (to, mut refusal, mut line) = (buffer.as_mut_ptr(), u32::MAX, usize::MAX);
     let (refused, at) = (&mut refusal, &mut line);
@@ -28,8 +46,8 @@ fn called(call: usize, text: &[u8], mode: u32, start: usize, buffer: &mut [u8], 
     let count = unsafe {
         match call {
             0 => cue_samples(source, len, mode, refused, at),
-            1 => cue_wav(source, len, mode, to, room, refused, at),
-            2 => cue_header(source, len, mode, to, room, refused, at),
+            1 => cue_wav(source, len, mode, riff_size, to, room, refused, at),
+            2 => cue_header(source, len, mode, riff_size, to, room, refused, at),
             3 => cue_window(source, len, mode, start, to, room, place, refused, at),
             _ => panic!("no such call"),
         }
@@ -42,10 +60,10 @@ fn main() -> io::Result<()> {
     let mut request = String::new();
     while asked.read_line(&mut request)? != 0 {
         let numbers: Vec<usize> = request.split_whitespace().map(|n| n.parse().expect("a number")).collect();
-        let [call, len, mode, start, room, place, fill] = numbers[..] else { panic!("a request is not seven numbers") };
+        let [call, len, mode, riff_size, start, room, place, fill] = numbers[..] else { panic!("a request is not eight numbers") };
         let (mut text, mut buffer) = (vec![0; len], vec![fill as u8; room]);
         asked.read_exact(&mut text)?;
-        let (count, refusal, line) = called(call, &text, mode as u32, start, &mut buffer, place);
+        let (count, refusal, line) = called(call, &text, (mode as u32, riff_size as u32), start, &mut buffer, place);
         writeln!(answers, "{count} {refusal} {line}")?;
         answers.write_all(&buffer)?;
         request.clear();

@@ -7,8 +7,9 @@ are cut from those.
 from collections import namedtuple
 
 SAMPLES, WAV, HEADER, WINDOW = range(4)
-# Every number but PLAIN is strict.
+# Every number but PLAIN is strict, and every number but OLD the published size.
 PLAIN, STRICT, ALSO_STRICT = 0, 1, (2, 2**31, 2**32 - 1)
+PUBLISHED, OLD, ALSO_PUBLISHED = 0, 1, (2, 2**31, 2**32 - 1)
 NAMES = ("cue_samples", "cue_wav", "cue_header", "cue_window")
 FILL = 0xA5
 MOST = 2**64 - 1
@@ -24,14 +25,15 @@ class Sound(namedtuple("Sound", "samples front")):
         return len(self.front) == 44 + 2 * self.samples
 
 
-class Request(namedtuple("Request", "call text mode start room place")):
+class Request(namedtuple("Request", "call text mode riff_size start room place")):
     """One call; what it has no use for is 0."""
 
     def written(self):
-        return b"%d %d %d %d %d %d %d\n" % (self.call, len(self.text), self.mode, self.start, self.room, self.place, FILL) + self.text
+        numbers = (self.call, len(self.text), self.mode, self.riff_size, self.start, self.room, self.place, FILL)
+        return b"%d %d %d %d %d %d %d %d\n" % numbers + self.text
 
     def __str__(self):
-        return f"{NAMES[self.call]} in mode {self.mode} with start {self.start}, {self.room} bytes, place {self.place}"
+        return f"{NAMES[self.call]} in mode {self.mode} with size {self.riff_size}, start {self.start}, {self.room} bytes, place {self.place}"
 
 
 def window_refusal(request, samples):
@@ -103,10 +105,10 @@ def windows(n):
     return starts + middle + ends
 
 
-def asked_of(text, mode, known, every):
-    """The requests for a text in a mode. The whole file is asked for once, or, where every one is wanted, in each kind of room."""
+def asked_of(text, mode, riff_size, known, every):
+    """The requests for a text in a mode, with a RIFF size. The whole file is asked for once, or, where every one is wanted, in each kind of room."""
     if isinstance(known, Refused):
-        return [Request(call, text, mode, start, room, place) for call, start, room, place in REFUSED]
+        return [Request(call, text, mode, riff_size, start, room, place) for call, start, room, place in REFUSED]
     n, whole = known.samples, known.is_whole()
     size = 44 + 2 * n
     # A file that is not known whole is asked for only where it does not fit, and its windows only at its ends.
@@ -114,8 +116,8 @@ def asked_of(text, mode, known, every):
     if whole:
         rooms += [size, size + 1, size + 77] if every else [size + len(text) % 3]
     return (
-        [Request(SAMPLES, text, mode, 0, 0, 0)]
-        + [Request(WAV, text, mode, 0, room, 0) for room in rooms]
-        + [Request(HEADER, text, mode, 0, room, 0) for room in (0, 43, 44, 61)]
-        + [Request(WINDOW, text, mode, *window) for window in windows(n) if whole or window[0] == 0 or window[0] >= n]
+        [Request(SAMPLES, text, mode, 0, 0, 0, 0)]
+        + [Request(WAV, text, mode, riff_size, 0, room, 0) for room in rooms]
+        + [Request(HEADER, text, mode, riff_size, 0, room, 0) for room in (0, 43, 44, 61)]
+        + [Request(WINDOW, text, mode, 0, *window) for window in windows(n) if whole or window[0] == 0 or window[0] >= n]
     )

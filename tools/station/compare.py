@@ -4,7 +4,8 @@
 
 A C program and a Rust program that link the library make the calls of include/cue.h for the sheets of examples/, for the stored sheets of
 oracle/stored and for texts at the edges; what each call answers, and every byte of the buffer it is lent, is compared with what document 01
-says of the bytes that `cue` writes for the same text, in plain mode, and of some texts in strict mode too, beside `cue strict`. Of a sheet whose file is longer than FRONT bytes only the first are looked at. The
+says of the bytes that `cue` writes for the same text, in plain mode, and of some texts in strict mode too, beside `cue strict`, and with the old RIFF
+size, beside `cue old-size`. Of a sheet whose file is longer than FRONT bytes only the first are looked at. The
 program in the header file is built and run too, and its functions are those of the archive. It prints a line with the counts, or one that
 says what differs, with status 1. Where no x86-64 program can be linked, which is so on another processor without Debian's cross compiler, it
 says that none was.
@@ -19,7 +20,7 @@ from itertools import accumulate, dropwhile
 
 import builds
 from builds import ROOT, Broken
-from calls import ALSO_STRICT, NAMES, PLAIN, STRICT, Refused, Sound, answer, asked_of, said
+from calls import ALSO_PUBLISHED, ALSO_STRICT, NAMES, OLD, PLAIN, PUBLISHED, STRICT, Refused, Sound, answer, asked_of, said
 
 sys.path.insert(1, str(ROOT / "oracle"))
 from harness import escape, unescape  # noqa: E402
@@ -27,10 +28,11 @@ from harness import escape, unescape  # noqa: E402
 # How much of a file is looked at.
 FRONT = 44 + 2 * 250_000
 # The least that must be compared, of each kind: about four fifths of what is there, and every refusal number that a call can give.
-LEAST = {"calls": 15_400, "accepted": 375, "refused": 475, "numbers": 30}
+LEAST = {"calls": 19_500, "accepted": 480, "refused": 575, "numbers": 30, "old": 76}
 BATCH = 40
-# One stored sheet of so many is read in strict mode too.
+# One stored sheet of so many is read in strict mode too, and one of so many written with the old size.
 STRICTLY = 5
+OLDER = 5
 
 
 def stored():
@@ -63,10 +65,11 @@ def edges():
     ]
 
 
-def known(text, mode):
+def known(text, mode, riff_size):
     """What the program `cue` says of a text in a mode: a refusal, or the first bytes of the file. It ends by itself where nobody takes more."""
     pipe = subprocess.PIPE
-    with subprocess.Popen([ROOT / "tools" / "run", "cue", *(["strict"] if mode else [])], stdin=pipe, stdout=pipe, stderr=pipe) as program:
+    words = (["strict"] if mode != PLAIN else []) + (["old-size"] if riff_size == OLD else [])
+    with subprocess.Popen([ROOT / "tools" / "run", "cue", *words], stdin=pipe, stdout=pipe, stderr=pipe) as program:
         with suppress(BrokenPipeError), program.stdin as asked:
             asked.write(text)
         front = program.stdout.read(FRONT)
@@ -96,7 +99,7 @@ def differing(programs, cases):
     """What a program answers otherwise to any of the texts, in words, and the requests that were made."""
     made = []
     for begin in range(0, len(cases), BATCH):
-        batch = [(request, what) for (text, mode, every), what in cases[begin : begin + BATCH] for request in asked_of(text, mode, what, every)]
+        batch = [(request, what) for (*asked, every), what in cases[begin : begin + BATCH] for request in asked_of(*asked, what, every)]
         for name, program in programs:
             if wrong := first_difference(name, program, batch):
                 return wrong, made
@@ -109,7 +112,8 @@ def tally(cases, made):
     sounds = [what for _, what in cases if isinstance(what, Sound)]
     numbers = {said(request, what)[1] for request, what in made} - {0}
     long = sum(not sound.is_whole() for sound in sounds)
-    return Counter(calls=len(made), accepted=len(sounds), refused=len(cases) - len(sounds), long=long, numbers=len(numbers))
+    old = sum(riff_size == OLD for (_, _, riff_size, _), what in cases if isinstance(what, Sound))
+    return Counter(calls=len(made), accepted=len(sounds), refused=len(cases) - len(sounds), long=long, numbers=len(numbers), old=old)
 
 
 def compare_names():
@@ -120,7 +124,7 @@ def compare_names():
 
 def compare_example():
     """The header file's program writes what `cue` does."""
-    wanted = known(b"p t120 a", PLAIN)
+    wanted = known(b"p t120 a", PLAIN, PUBLISHED)
     if builds.run(builds.build_c(builds.example(), "example"), b"") != wanted.front:
         raise Broken("the program in the header file writes another file than cue")
 
@@ -135,11 +139,14 @@ def asking_programs():
 
 
 def cases_known():
-    """Each text with its mode, whether every kind of room is asked for, and what `cue` says of it."""
-    asked = [(text, mode, mode in (PLAIN, STRICT)) for text in edges() for mode in (PLAIN, STRICT, *ALSO_STRICT)]
-    asked += [(text, PLAIN, False) for text in stored()] + [(text, STRICT, False) for text in stored()[::STRICTLY]]
+    """Each text with its mode and its RIFF size, whether every kind of room is asked for, and what `cue` says of it."""
+    asked = [(text, mode, PUBLISHED, mode in (PLAIN, STRICT)) for text in edges() for mode in (PLAIN, STRICT, *ALSO_STRICT)]
+    asked += [(text, mode, OLD, True) for text in edges() for mode in (PLAIN, STRICT)]
+    asked += [(text, PLAIN, riff_size, False) for text in edges() for riff_size in ALSO_PUBLISHED]
+    asked += [(text, PLAIN, PUBLISHED, False) for text in stored()] + [(text, STRICT, PUBLISHED, False) for text in stored()[::STRICTLY]]
+    asked += [(text, PLAIN, OLD, False) for text in stored()[1::OLDER]]
     with ThreadPoolExecutor(2) as pool:
-        answers = list(pool.map(lambda one: known(*one[:2]), asked))
+        answers = list(pool.map(lambda one: known(*one[:3]), asked))
     return list(zip(asked, answers))
 
 
@@ -155,8 +162,8 @@ def compare_calls():
     if few := [f"{kind} {counts[kind]} of {least}" for kind, least in LEAST.items() if counts[kind] < least]:
         raise Broken(f"too little was compared: {', '.join(few)}")
     return (
-        f"compared {counts['calls']} calls by {' and by '.join(name for name, _ in programs)}, of {counts['accepted']} sheets, {counts['long']} of "
-        f"which are too long to be compared to the end, and of {counts['refused']} refused texts, with {counts['numbers']} refusal numbers"
+        f"compared {counts['calls']} calls by {' and by '.join(name for name, _ in programs)}, of {counts['accepted']} sheets, {counts['old']} of "
+        f"which have the old size and {counts['long']} are too long to be compared to the end, and of {counts['refused']} refused texts, with {counts['numbers']} refusal numbers"
     )
 
 
