@@ -4,26 +4,8 @@ use std::io::{self, BufRead, Read, Write};
 #[link(name = "station", kind = "static")]
 extern "C" {
     fn cue_samples(source: *const u8, len: usize, mode: u32, refusal: &mut u32, line: &mut usize) -> usize;
-    fn cue_wav(
-        source: *const u8,
-        len: usize,
-        mode: u32,
-        riff_size: u32,
-        buffer: *mut u8,
-        room: usize,
-        refusal: &mut u32,
-        line: &mut usize,
-    ) -> usize;
-    fn cue_header(
-        source: *const u8,
-        len: usize,
-        mode: u32,
-        riff_size: u32,
-        buffer: *mut u8,
-        room: usize,
-        refusal: &mut u32,
-        line: &mut usize,
-    ) -> usize;
+    fn cue_wav(source: *const u8, len: usize, mode: u32, size: u32, buffer: *mut u8, room: usize, refusal: &mut u32, line: &mut usize) -> usize;
+    fn cue_header(source: *const u8, len: usize, mode: u32, size: u32, buffer: *mut u8, room: usize, refusal: &mut u32, line: &mut usize) -> usize;
     fn cue_window(
         source: *const u8,
         len: usize,

@@ -6,10 +6,11 @@ are cut from those.
 
 from collections import namedtuple
 
+from riff import HEADER_BYTES
+
 SAMPLES, WAV, HEADER, WINDOW = range(4)
-# Every number but PLAIN is strict, and every number but OLD the published size.
+# Every number but PLAIN is strict.
 PLAIN, STRICT, ALSO_STRICT = 0, 1, (2, 2**31, 2**32 - 1)
-PUBLISHED, OLD, ALSO_PUBLISHED = 0, 1, (2, 2**31, 2**32 - 1)
 NAMES = ("cue_samples", "cue_wav", "cue_header", "cue_window")
 FILL = 0xA5
 MOST = 2**64 - 1
@@ -22,7 +23,7 @@ class Sound(namedtuple("Sound", "samples front")):
     """A file of so many samples, and its first bytes: all of them, or enough for the requests that are made."""
 
     def is_whole(self):
-        return len(self.front) == 44 + 2 * self.samples
+        return len(self.front) == HEADER_BYTES + 2 * self.samples
 
 
 class Request(namedtuple("Request", "call text mode riff_size start room place")):
@@ -50,7 +51,7 @@ def window_told(request, sound):
     if number := window_refusal(request, sound.samples):
         return 0, number, b""
     count = min((request.room - request.place) // 2, sound.samples - request.start)
-    begin = 44 + 2 * request.start
+    begin = HEADER_BYTES + 2 * request.start
     return count, 0, sound.front[begin : begin + 2 * count]
 
 
@@ -60,7 +61,7 @@ def told_of(request, sound):
         return sound.samples, 0, b""
     if request.call == WINDOW:
         return window_told(request, sound)
-    size = 44 if request.call == HEADER else 44 + 2 * sound.samples
+    size = HEADER_BYTES if request.call == HEADER else HEADER_BYTES + 2 * sound.samples
     if request.room < size:
         return size if request.call == WAV else 0, 30, b""
     return size, 0, sound.front[:size]

@@ -20,10 +20,11 @@ from itertools import accumulate, dropwhile
 
 import builds
 from builds import ROOT, Broken
-from calls import ALSO_PUBLISHED, ALSO_STRICT, NAMES, OLD, PLAIN, PUBLISHED, STRICT, Refused, Sound, answer, asked_of, said
 
 sys.path.insert(1, str(ROOT / "oracle"))
+from calls import ALSO_STRICT, NAMES, PLAIN, STRICT, Refused, Sound, answer, asked_of, said  # noqa: E402
 from harness import escape, unescape  # noqa: E402
+from riff import ALSO_PUBLISHED, OLD, PUBLISHED  # noqa: E402
 
 # How much of a file is looked at.
 FRONT = 44 + 2 * 250_000
