@@ -20,7 +20,7 @@ headerOf rate s room = do
   refuse 30 on 0 unless (leb 44 room)
   going 44
 
--- the buffer afterwards, by what came of it: the header in front, or every byte as it was
+-- the buffer afterwards, by what came of it: the header in front, with the RIFF size of a name, or every byte as it was
 unfoldable pub headedBy : Size → ℕ → Sheet → List ℕ → Outcome ℕ → List ℕ
 unfolding put header lengthOf
 headedBy size rate s buffer (going n) = put buffer 0 (header size rate (lengthOf rate s))

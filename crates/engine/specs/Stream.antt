@@ -18,7 +18,7 @@ use Rattle.mixing.specs.Placing.{placed}
 use Rattle.windows.specs.Written.{writtenOf}
 use Rattle.engine.specs.Files.{headerOf}
 
--- the bytes of a sheet's file; a sheet that does not pass the check has none
+-- the bytes of a sheet's file, with the RIFF size of a name; a sheet that does not pass the check has none
 unfoldable pub fileOf : Size → ℕ → Sheet → List ℕ
 unfolding isSheet header lengthOf bytesOf samplesFrom placed
 fileOf size rate s =

@@ -20,8 +20,8 @@ fn count_of(answer: Answer) -> usize
     }
 }
 
-// Writes the next bytes of a sheet's file, from place `at` of the file on, to the buffer's start, and answers how many: at place 0 the header, and
-// behind it as many whole samples as fit. Where nothing is left, inside the header or inside a sample, and for a sheet that does not pass the check
+// Writes the next bytes of a sheet's file, from place `at` of the file on, to the buffer's start, and answers how many: at place 0 the header,
+// with the RIFF size of that name, and behind it as many whole samples as fit. Where nothing is left, inside the header or inside a sample, and for a sheet that does not pass the check
 // or a buffer that is too short, it writes nothing and answers 0.
 pub fn next_bytes(sheet: Sheet, buffer: &mut [u8], size: Size, rate: u32, at: usize) -> usize
     ensures count { λ r. ⌜ r ≡ nextOf rate sheet (length (now (buffer .entry))) at ⌝ }

@@ -1,4 +1,4 @@
--- A buffer with room for the file of given samples holds the published form in front; under the old name it differs in the four bytes of the RIFF size alone.
+-- A buffer with room for the file of given samples holds the published form in front, or under the old name the form's file whose RIFF size says 32 + 2n.
 -- Assumes nothing.
 use mathlib.Core.Path.{_≡_, ap}
 use mathlib.Core.Bool.{true}

@@ -58,7 +58,7 @@ told TooShort = refused 30
 unfoldable pub headerTold : ℕ → Told
 headerTold room = elim (leb 44 room) [ true ↦ written 44 | false ↦ refused 30 ]
 
--- and the buffer afterwards: the header in front, or every byte as it was
+-- and the buffer afterwards: the header in front, with the RIFF size of a name, or every byte as it was
 unfoldable pub headerIn : Size → ℕ → ℕ → List ℕ → List ℕ
 unfolding put header
 headerIn size rate n buffer = elim (leb 44 (length buffer)) [ true ↦ put buffer 0 (header size rate n) | false ↦ buffer ]
@@ -78,7 +78,7 @@ unfoldable pub fileTold : ℕ → ℕ → Told
 unfolding fitsFile
 fileTold samples room = elim (fitsFile samples room) [ true ↦ written (44 + 2 * samples) | false ↦ refused 30 ]
 
--- the buffer afterwards: the file in front, or every byte as it was
+-- the buffer afterwards: the file in front, with the RIFF size of a name, or every byte as it was
 unfoldable pub fileIn : Size → ℕ → List Float → List ℕ → List ℕ
 unfolding fitsFile put header bytesOf
 fileIn size rate xs buffer =

@@ -80,8 +80,9 @@ pub fn write_header(buffer: &mut [u8], size: Size, rate: u32, n: u32) -> Written
     Written::Wrote(44)
 }
 
-// Writes the file of the given n samples into the buffer's first 44 + 2n bytes. Over 2,000,000,000
-// samples or a buffer that has fewer bytes is refused, and then nothing is written.
+// Writes the file of the given n samples, with the RIFF size of that name, into the buffer's first
+// 44 + 2n bytes. Over 2,000,000,000 samples or a buffer that has fewer bytes is refused, and then
+// nothing is written.
 pub fn write_file(buffer: &mut [u8], samples: &[f32], size: Size, rate: u32) -> Written
     ensures answer { λ r. ⌜ told r ≡ fileTold (length (now (samples .entry))) (length (now (buffer .entry))) ⌝ }
     ensures bytes { λ _. ⌜ now (buffer .exit) ≡ fileIn size rate (now (samples .entry)) (now (buffer .entry)) ⌝ }
