@@ -38,3 +38,9 @@ step = round binary32 false 10594630943592952645618253 (10 ^ 25)
 unfoldable pub frequencyOf : ℕ → Float
 unfolding power step
 frequencyOf s = mul binary32 concertPitch (power step (minus s 57))
+
+-- the frequencies of n semitones from s on, one after the other
+unfoldable pub frequencies : ℕ → ℕ → List Float
+unfolding frequencyOf
+frequencies zero s = []
+frequencies (suc n) s = frequencyOf s ∷ frequencies n (suc s)

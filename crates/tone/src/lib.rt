@@ -3,3 +3,4 @@
 
 pub mod power;
 pub mod time;
+mod tuning;

@@ -1,28 +1,36 @@
--- `frequency` goes by the sign of the exponent: each branch is one law of the definition, and the constant's bits are those of its step.
--- Assumes nothing.
+-- `frequency` looks a semitone up in the table where it is one of the hundred there, and goes by the power rule below and above them. Assumes nothing.
+use mathlib.Core.Path.{_≡_}
+use Prim.Native.Nat.{ℕ, _+_, _-_, _≤_}
+use native.Mathlib.Omega.{arith}
 use borrow.Author.Needs.{needs}
-use lib.Ieee.{ofBits, round}
-use Rattle.tone.specs.Power.{step}
-use Rattle.tone.proofs.Powers.{frequency-below, frequency-from}
+use Rattle.tone.proofs.Lookup.{looked-up}
 use Rattle.tone.proofs.power.frequency.Statement.{statement}
 use Rattle.tone.proofs.power.frequency.Tie as tie
 
-sub-power : tie.Need-sub-power
-sub-power c = search needs
+-- the place of a semitone, counted from the first
+at : (first s : ℕ) → first ≤ s → first + (s - first) ≡ s
+at first s h = omega arith
 
-power-requires : tie.Need-power-requires
-power-requires c κs = search needs
+cast-i : tie.Need-cast-i
+cast-i c = search needs
+
+table-requires : tie.Need-table-requires
+table-requires c κs = search needs
+
+mul-result : tie.Need-mul-result
+mul-result c = search needs
+
+array-read-result : tie.Need-array-read-result
+array-read-result c = search needs
 
 returns : tie.Need-returns
-unfolding ofBits round step
-returns c = rw (c .power .ensures) (frequency-below _ (c .before .if1 .taken))
+returns c = rw (c .table .ensures) (looked-up 100 10 _ _ (c .before .if2 .taken) (at _ _ (c .before .before .if1 .taken)))
 
-power-requires-2 : tie.Need-power-requires-2
-power-requires-2 c κs = search needs
+by-power-requires : tie.Need-by-power-requires
+by-power-requires c κs = search needs
 
 returns-2 : tie.Need-returns-2
-unfolding ofBits round step
-returns-2 c = rw (c .power2 .ensures) (frequency-from _ (c .before .if1 .left))
+returns-2 c = search needs
 
 pub frequency-spec : {M : Type 1} → statement M
-frequency-spec = tie.close (tie.spec sub-power power-requires returns power-requires-2 returns-2)
+frequency-spec = tie.close (tie.spec cast-i table-requires mul-result array-read-result returns by-power-requires returns-2)
