@@ -39,7 +39,7 @@ unfoldable pub frequencyOf : ℕ → Float
 unfolding power step
 frequencyOf s = mul binary32 concertPitch (power step (minus s 57))
 
--- the frequencies of n semitones from s on, one after the other
+-- the frequencies of n semitones from s on, one after the other; "the hundred frequencies for s from 10 to 109" of document 02, request T-08, are `frequencies 100 10`
 unfoldable pub frequencies : ℕ → ℕ → List Float
 unfolding frequencyOf
 frequencies zero s = []
