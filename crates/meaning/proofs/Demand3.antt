@@ -1,6 +1,6 @@
 -- Demand 3 for sheets, in either mode: every instrument of an accepted sheet in whose operator lines no two neighbours have equal indent has the value of the tree that
--- those lines describe, at any frequency, duration and time. The lines are those that the definition finds in the text; that their indents are
--- accepted and that their commands fit an instrument follows from the refusals. Assumes nothing.
+-- those lines describe, at any frequency, duration and time; and where each such pair is followed by no line of smaller indent, the value of the tree with chains. The lines are
+-- those that the definition finds in the text; that their indents are accepted and that their commands fit an instrument follows from the refusals. Assumes nothing.
 use mathlib.Core.Path.{_≡_, refl, ap, _∙_}
 use mathlib.Core.List.{List, [], _∷_, _++_, map}
 use mathlib.Core.Option.{Option, none}
@@ -18,8 +18,9 @@ use Rattle.operator.specs.Evaluation.{operatorAt}
 use Rattle.instrument.specs.Evaluation.{listOf, instrumentAt}
 use Rattle.tree.specs.Lines.{Line, accepted, commandsOf}
 use Rattle.tree.specs.Tree.{sum, treeOf, stepped}
+use Rattle.tree.specs.Chains.{chained, chainsLast}
 use Rattle.tree.proofs.CommandCount.{commands-few}
-use Rattle.tree.proofs.Demand3.{demand3-instrument}
+use Rattle.tree.proofs.Demand3.{demand3-instrument, demand3-with-chains-instrument}
 use Rattle.sheet.specs.Capacities.{commandsMost, instrumentsMost}
 use Rattle.sheet.specs.Refusals.{Outcome, going}
 use Rattle.sheet.proofs.Holds.{Holds, holds-going, holds-then, holds-after}
@@ -118,10 +119,33 @@ demand3-sheet mode rate source r e =
     every-maps (AllFit none 0) TreesValue trees-value (r .instruments) (lines-fit mode rate source r e)
 
 -- the sheet that a source is read as has these instruments in its table, and then empty ones
+pub table-of-reading : (mode : Mode) (rate : ℕ) (source : List ℕ) (r : Read) → sheetRead mode rate source ≡ going r
+    → readingOf mode rate source .sheet .table ≡ padded instrumentsMost (instrumentOf []) (map instrumentOf (r .instruments))
+unfolding readingOf laidOut sheetOf
+table-of-reading mode rate source r e = ap (λ (o : Outcome Read). laidOut o .sheet .table) e
+
 pub demand3-reading : (mode : Mode) (rate : ℕ) (source : List ℕ) (r : Read) → sheetRead mode rate source ≡ going r
     → (readingOf mode rate source .sheet .table ≡ padded instrumentsMost (instrumentOf []) (map instrumentOf (r .instruments))) × Every TreesValue (r .instruments)
-unfolding readingOf laidOut sheetOf
-demand3-reading mode rate source r e = (ap (λ (o : Outcome Read). laidOut o .sheet .table) e, demand3-sheet mode rate source r e)
+demand3-reading mode rate source r e = (table-of-reading mode rate source r e, demand3-sheet mode rate source r e)
+
+-- ---- demand 3 with chains
+
+-- the value of an instrument of these lines is that of their tree with chains
+abbrev pub ChainsValue : List Line → Type 0
+ChainsValue ls =
+    T (chainsLast ls) → (f d t : Float)
+    → instrumentAt f d t (instrumentOf ls) ≡ sum Float (operatorAt f d t) (add binary32) plusZero (chained (treeOf ls))
+
+chains-value : (ls : List Line) → AllFit none 0 ls → ChainsValue ls
+chains-value ls g c f d t = demand3-with-chains-instrument f d t (instrumentOf ls) ls (list-of-lines ls) (g .indents) c
+
+pub demand3-with-chains-sheet : (mode : Mode) (rate : ℕ) (source : List ℕ) (r : Read) → sheetRead mode rate source ≡ going r → Every ChainsValue (r .instruments)
+demand3-with-chains-sheet mode rate source r e =
+    every-maps (AllFit none 0) ChainsValue chains-value (r .instruments) (lines-fit mode rate source r e)
+
+pub demand3-with-chains-reading : (mode : Mode) (rate : ℕ) (source : List ℕ) (r : Read) → sheetRead mode rate source ≡ going r
+    → (readingOf mode rate source .sheet .table ≡ padded instrumentsMost (instrumentOf []) (map instrumentOf (r .instruments))) × Every ChainsValue (r .instruments)
+demand3-with-chains-reading mode rate source r e = (table-of-reading mode rate source r e, demand3-with-chains-sheet mode rate source r e)
 
 -- ---- room
 

@@ -1,9 +1,10 @@
--- Why the stack has the tree's value. Once the lines from some line of indent i on have been run, last line first, the value is the sum of
+-- Why the stack has the tree's value, chains and all. Once the lines from some line of indent i on have been run, last line first, the value is the sum of
 -- the forest that they begin with at level i, and the stack holds, for each smaller level that has a forest there, the sum of
 -- that forest, with the number of levels between it and the one above it on the stack. `descent` carries this from line to
--- line: a line's children are the value, its later siblings the top of the stack. Assumes nothing.
+-- line: a line's children are the value, its later siblings the top of the stack. A line before one of equal indent takes the value as it is; that
+-- the stack is empty there, so that nothing is added too early, is what the hypothesis says. Assumes nothing.
 use mathlib.Core.Path.{_≡_, refl, sym, ap, ap₂, subst, _∙_}
-use mathlib.Core.Bool.{Bool, true, false, not}
+use mathlib.Core.Bool.{Bool, true, false}
 use mathlib.Core.Logic.{inl, inr}
 use mathlib.Core.List.{List, [], _∷_, _++_, reverseAux}
 use mathlib.Core.Option.{none, some}
@@ -11,7 +12,7 @@ use Prim.Native.Nat.{ℕ, zero, suc, _+_, _-_, _≤_, _<_}
 use native.Mathlib.Nat.{le-of-suc-le-suc, eq-or-lt-of-le, not-suc-le-zero, le-refl, zero-add}
 use native.Mathlib.Numerals.{add-one}
 use native.Mathlib.Omega.{arith}
-use lib.Dec.{T, eqb, leb}
+use lib.Dec.{T, eqb, leb, leb→le}
 use lib.Ieee.Fits.{and-l, and-r}
 use borrow.Author.Tests.{lt-ltb, le-ltb, eq-eqb, ne-eqb, leb-true, eqb-true}
 use Rattle.operator.specs.declared.operator.Operator.{Operator}
@@ -19,7 +20,8 @@ use Rattle.instrument.specs.declared.machine.Command.{Command}
 use Rattle.instrument.specs.declared.machine.Command.the-variants as Command
 use Rattle.tree.specs.Lines.{Line, indentRefusal, accepted, outdent, downward, commandsOf}
 use Rattle.instrument.specs.Machine.{Entry, State, topped, settled, step, run, machine}
-use Rattle.tree.specs.Tree.{Forest, bare, grown, forestAt, treeOf, withLater, sum, steppedAfter, stepped}
+use Rattle.tree.specs.Tree.{Forest, bare, grown, forestAt, treeOf, withLater, sum}
+use Rattle.tree.specs.Chains.{chained, noneBelow, chainsLastAfter, chainsLast}
 
 -- ---- the forest that a line begins
 
@@ -35,7 +37,15 @@ pub forest-passed : (j : ℕ) (l : Line) (ls : List Line) → j < l .indent → 
 unfolding forestAt
 forest-passed j l ls h = rw (ne-eqb (l .indent) j (λ (e : l .indent ≡ j). omega arith), le-ltb (l .indent) j (omega arith), forestAt)
 
--- ---- what is left of an accepted and stepped list
+-- lines of which none has a smaller indent than i have no forest at a level below i
+forest-none : (j i : ℕ) (ls : List Line) → j < i → T (noneBelow i ls) → forestAt j ls ≡ bare
+unfolding forestAt noneBelow
+forest-none j i [] h t = refl
+forest-none j i (l ∷ ls) h t =
+    let d : i ≤ l .indent = leb→le i (l .indent) (and-l (leb i (l .indent)) (noneBelow i ls) t) in
+    forest-passed j l ls (omega arith) ∙ forest-none j i ls h (and-r (leb i (l .indent)) (noneBelow i ls) t)
+
+-- ---- what is left of an accepted list whose chains are last
 
 pub next-accepted : (i : ℕ) (l : Line) (ls : List Line) → T (accepted (some i) (l ∷ ls)) → (l .indent ≤ i + 1) × T (accepted (some (l .indent)) ls)
 unfolding accepted
@@ -46,13 +56,17 @@ next-accepted i l ls t =
     steep b k true e h = leb-true k (b + 1) e
     steep b k false e h = absurd h
 
-next-stepped : (i : ℕ) (l : Line) (ls : List Line) → T (steppedAfter i (l ∷ ls)) → (i ≡ l .indent → ⊥) × T (steppedAfter (l .indent) ls)
-unfolding steppedAfter
-next-stepped i l ls t =
-    (apart (and-l (not (eqb i (l .indent))) (steppedAfter (l .indent) ls) t), and-r (not (eqb i (l .indent))) (steppedAfter (l .indent) ls) t)
+-- after a line of indent i the next one has another indent, or none that follows has a smaller one
+next-last : (i : ℕ) (l : Line) (ls : List Line) → T (chainsLastAfter i (l ∷ ls)) → (i ≡ l .indent → T (noneBelow i ls)) × T (chainsLastAfter (l .indent) ls)
+unfolding chainsLastAfter
+next-last i l ls t =
+    (paired (and-l (pairLast (eqb i (l .indent))) (chainsLastAfter (l .indent) ls) t), and-r (pairLast (eqb i (l .indent))) (chainsLastAfter (l .indent) ls) t)
   where
-    apart : T (not (eqb i (l .indent))) → i ≡ l .indent → ⊥
-    apart h e = subst (λ (b : Bool). T (not b)) (eq-eqb i (l .indent) e) h
+    pairLast : Bool → Bool
+    pairLast b = elim b [ true ↦ noneBelow i ls | false ↦ true ]
+
+    paired : T (pairLast (eqb i (l .indent))) → i ≡ l .indent → T (noneBelow i ls)
+    paired h e = subst (λ (b : Bool). T (pairLast b)) (eq-eqb i (l .indent) e) h
 
 pub first-accepted : (l : Line) (ls : List Line) → T (accepted none (l ∷ ls)) → (l .indent ≡ 0) × T (accepted (some (l .indent)) ls)
 unfolding accepted
@@ -79,7 +93,7 @@ outdent-some i k h = rw (lt-ltb k i h, outdent)
 
 module _ (A : Type 0) (works : Operator → A → A) (plus : A → A → A) (nothing : A) where
   abbrev total : Forest → A
-  total f = sum A works plus nothing f
+  total f = sum A works plus nothing (chained f)
 
   abbrev aside : ℕ → A → Entry A
   aside n v = record { left = n; saved = v }
@@ -142,6 +156,12 @@ module _ (A : Type 0) (works : Operator → A → A) (plus : A → A → A) (not
             (pend-down j (suc gap) l ls g ∙ ap (λ (n : ℕ). aside n (total (forestAt (l .indent) (l ∷ ls))) ∷ pend (l .indent) 0 (l ∷ ls)) (omega arith))
       ]
 
+  -- where no line has a smaller indent than i, nothing is set aside for the levels up to i
+  pend-empty : (j gap i : ℕ) (ls : List Line) → j ≤ i → T (noneBelow i ls) → pend j gap ls ≡ []
+  unfolding pend pendOf
+  pend-empty zero gap i ls h t = refl
+  pend-empty (suc j) gap i ls h t = rw (forest-none j i ls h t) (pend-empty j (suc gap) i ls (omega arith) t)
+
   -- ---- an operator and the stack
 
   lose-of : (w : A) (j gap : ℕ) (ls : List Line) (f : Forest) → settled A plus w (pend j (suc (suc gap)) ls) ≡ st w (pend j (suc gap) ls)
@@ -158,10 +178,25 @@ module _ (A : Type 0) (works : Operator → A → A) (plus : A → A → A) (not
 
   -- at a level with later siblings they are the top entry, and are added
   meet : (w : A) (i : ℕ) (ls : List Line) (f : Forest)
-      → settled A plus w (pendOf 0 f (pend i 1 ls) (pend i 0 ls)) ≡ st (withLater A works plus nothing w f (total f)) (pend i 0 ls)
-  unfolding pendOf settled withLater
+      → settled A plus w (pendOf 0 f (pend i 1 ls) (pend i 0 ls)) ≡ st (withLater A works plus nothing w (chained f) (total f)) (pend i 0 ls)
+  unfolding pendOf settled withLater chained
   meet w i ls bare = lose w i 0 ls
-  meet w i ls (grown op kids later) = refl
+  meet w i ls (grown op bare bare) = refl
+  meet w i ls (grown op bare (grown next kids later)) = refl
+  meet w i ls (grown op (grown first kids rest) later) = refl
+
+  -- ---- the value of a tree
+
+  -- a line with children
+  with-kids : (op : Operator) (first : Operator) (kids rest later : Forest)
+      → total (grown op (grown first kids rest) later) ≡ withLater A works plus nothing (works op (total (grown first kids rest))) (chained later) (total later)
+  unfolding chained sum
+  with-kids op first kids rest later = refl
+
+  -- a childless line with a later sibling is modulated by all of them, and the sum ends with it
+  in-chain : (op : Operator) (next : Operator) (kids later : Forest) → total (grown op bare (grown next kids later)) ≡ works op (total (grown next kids later))
+  unfolding chained sum withLater
+  in-chain op next kids later = refl
 
   -- ---- from line to line
 
@@ -172,15 +207,24 @@ module _ (A : Type 0) (works : Operator → A → A) (plus : A → A → A) (not
       ≡ st (total (forestAt (l .indent) (l ∷ ls))) (pend (l .indent) 0 (l ∷ ls))
 
   -- the same, from the lines after l
-  says : (l : Line) (ls : List Line) (w : A) → w ≡ withLater A works plus nothing (works (l .op) (total (forestAt (suc (l .indent)) ls))) (forestAt (l .indent) ls) (total (forestAt (l .indent) ls))
+  says : (l : Line) (ls : List Line) (w : A) → w ≡ total (grown (l .op) (forestAt (suc (l .indent)) ls) (forestAt (l .indent) ls))
       → st w (pend (l .indent) 0 ls) ≡ st (total (forestAt (l .indent) (l ∷ ls))) (pend (l .indent) 0 (l ∷ ls))
-  unfolding sum
   says l ls w e = rw (forest-same l ls, pend-passed (l .indent) 0 l ls (le-refl (l .indent))) (ap (λ (v : A). st v (pend (l .indent) 0 ls)) e)
 
   -- the last line
   last-line : (l : Line) → Tree l []
-  unfolding Tree upward step settled downward forestAt sum withLater
+  unfolding Tree upward step settled downward forestAt chained sum withLater
   last-line l = ap (st (works (l .op) nothing)) (sym (pend-none (l .indent) 0)) ∙ says l [] (works (l .op) nothing) refl
+
+  -- the value of a line before its first child
+  over-child : (l m : Line) (ms : List Line) → m .indent ≡ suc (l .indent)
+      → withLater A works plus nothing (works (l .op) (total (forestAt (suc (l .indent)) (m ∷ ms)))) (chained (forestAt (l .indent) (m ∷ ms))) (total (forestAt (l .indent) (m ∷ ms)))
+      ≡ total (grown (l .op) (forestAt (suc (l .indent)) (m ∷ ms)) (forestAt (l .indent) (m ∷ ms)))
+  over-child l m ms e =
+      let L = forestAt (l .indent) (m ∷ ms) in
+      let same = subst (λ (n : ℕ). forestAt n (m ∷ ms) ≡ grown (m .op) (forestAt (suc (m .indent)) ms) (forestAt (m .indent) ms)) e (forest-same m ms) in
+      subst (λ (K : Forest). withLater A works plus nothing (works (l .op) (total K)) (chained L) (total L) ≡ total (grown (l .op) K L)) (sym same)
+      (sym (with-kids (l .op) (m .op) (forestAt (suc (m .indent)) ms) (forestAt (m .indent) ms) L))
 
   -- a line followed by its first child: the child's forest is the value, the later siblings are the top of the stack
   above-child : (l m : Line) (ms : List Line) → m .indent ≡ suc (l .indent) → Tree m ms → Tree l (m ∷ ms)
@@ -192,12 +236,12 @@ module _ (A : Type 0) (works : Operator → A → A) (plus : A → A → A) (not
       ∙ ap (step A works plus nothing (Command.Operator (l .op))) h
       ∙ ap (λ (n : ℕ). settled A plus (works (l .op) (total (forestAt n S))) (pend n 0 S)) e
       ∙ meet (works (l .op) (total (forestAt (suc i) S))) i S (forestAt i S)
-      ∙ says l S _ refl
+      ∙ says l S _ (over-child l m ms e)
 
   -- a line before one of smaller indent has neither children nor later siblings
   alone : (l m : Line) (ms : List Line) → m .indent < l .indent
-      → works (l .op) nothing ≡ withLater A works plus nothing (works (l .op) (total (forestAt (suc (l .indent)) (m ∷ ms)))) (forestAt (l .indent) (m ∷ ms)) (total (forestAt (l .indent) (m ∷ ms)))
-  unfolding withLater sum
+      → works (l .op) nothing ≡ total (grown (l .op) (forestAt (suc (l .indent)) (m ∷ ms)) (forestAt (l .indent) (m ∷ ms)))
+  unfolding withLater sum chained
   alone l m ms h = rw (forest-ended (suc (l .indent)) m ms (omega arith), forest-ended (l .indent) m ms h)
 
   -- a line followed by one of smaller indent: it has neither children nor later siblings, and that line's forest is set aside
@@ -215,18 +259,43 @@ module _ (A : Type 0) (works : Operator → A → A) (plus : A → A → A) (not
       ∙ ap (st w) (sym (pend-down i 0 m ms h ∙ ap (λ (n : ℕ). aside n v ∷ pend k 0 S) (zero-add (i - suc k))))
       ∙ says l S w (alone l m ms h)
 
+  -- the value of a line before one of equal indent, which is childless
+  over-equal : (l m : Line) (ms : List Line) → l .indent ≡ m .indent
+      → works (l .op) (total (forestAt (l .indent) (m ∷ ms))) ≡ total (grown (l .op) (forestAt (suc (l .indent)) (m ∷ ms)) (forestAt (l .indent) (m ∷ ms)))
+  over-equal l m ms e =
+      let same = subst (λ (n : ℕ). forestAt n (m ∷ ms) ≡ grown (m .op) (forestAt (suc (m .indent)) ms) (forestAt (m .indent) ms)) (sym e) (forest-same m ms) in
+      rw (forest-ended (suc (l .indent)) m ms (omega arith), same) (sym (in-chain (l .op) (m .op) (forestAt (suc (m .indent)) ms) (forestAt (m .indent) ms)))
+
+  -- a line followed by one of equal indent, with none of smaller indent later: the stack is empty, and the forest that the next line begins is the value
+  above-equal : (l m : Line) (ms : List Line) → l .indent ≡ m .indent → T (noneBelow (l .indent) ms) → Tree m ms → Tree l (m ∷ ms)
+  unfolding Tree upward step settled downward
+  above-equal l m ms e q t =
+      let i = l .indent in
+      let S = m ∷ ms in
+      let none-aside : pend i 0 S ≡ [] = pend-passed i 0 m ms (omega arith) ∙ pend-empty i 0 i ms (le-refl i) q in
+      ap (λ (os : List Command). step A works plus nothing (Command.Operator (l .op)) (upward (os ++ (Command.Operator (m .op) ∷ downward (some (m .indent)) ms)))) (outdent-none i (m .indent) (omega arith))
+      ∙ ap (step A works plus nothing (Command.Operator (l .op))) t
+      ∙ ap (λ (n : ℕ). settled A plus (works (l .op) (total (forestAt n S))) (pend n 0 S)) (sym e)
+      ∙ ap (settled A plus (works (l .op) (total (forestAt i S)))) none-aside
+      ∙ ap (st (works (l .op) (total (forestAt i S)))) (sym none-aside)
+      ∙ says l S _ (over-equal l m ms e)
+
   -- every line, from the last one up
-  descent : (l : Line) (ls : List Line) → T (accepted (some (l .indent)) ls) → T (steppedAfter (l .indent) ls) → Tree l ls
+  descent : (l : Line) (ls : List Line) → T (accepted (some (l .indent)) ls) → T (chainsLastAfter (l .indent) ls) → Tree l ls
   descent l [] a s = last-line l
   descent l (m ∷ ms) a s =
       let p = next-accepted (l .indent) m ms a in
-      let q = next-stepped (l .indent) m ms s in
+      let q = next-last (l .indent) m ms s in
       let t = descent m ms (p .1) (q .1) in
-      elim (eq-or-lt-of-le (subst (λ (n : ℕ). m .indent ≤ n) (add-one (l .indent)) (p .0)))
-      [ inl e ↦ above-child l m ms e t | inr g ↦ above-outdent l m ms (smaller (m .indent) (l .indent) g (q .0)) t ]
+      elim (eq-or-lt-of-le (subst (λ (n : ℕ). m .indent ≤ n) (add-one (l .indent)) (p .0))) [
+        | inl e ↦ above-child l m ms e t
+        | inr g ↦
+            elim (eq-or-lt-of-le (le-of-suc-le-suc g))
+            [ inl e ↦ above-equal l m ms (sym e) (q .0 (sym e)) t | inr h ↦ above-outdent l m ms h t ]
+      ]
 
-  pub tree-value : (ls : List Line) → T (accepted none ls) → T (stepped ls) → machine A works plus nothing (commandsOf ls) ≡ total (treeOf ls)
-  unfolding Tree machine run commandsOf downward outdent treeOf forestAt sum accepted stepped
+  pub tree-value : (ls : List Line) → T (accepted none ls) → T (chainsLast ls) → machine A works plus nothing (commandsOf ls) ≡ total (treeOf ls)
+  unfolding Tree machine run commandsOf downward outdent treeOf forestAt chained sum accepted chainsLast
   tree-value [] a s = refl
   tree-value (l ∷ ls) a s =
       let z = first-accepted l ls a in

@@ -3,4 +3,5 @@ pub mod CommandCount
 pub mod Demand3
 pub mod Descent
 pub mod Examples
+pub mod Pairs
 pub mod TreeLines

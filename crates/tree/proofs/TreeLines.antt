@@ -1,5 +1,6 @@
 -- The tree is the one that the lines describe: written out again with its levels as indents, it is the lines, each one once and in
--- their order. Every accepted list has this, with equal neighbours or without. Assumes nothing.
+-- their order. Every accepted list has this, with equal neighbours or without. With its chains the tree has the same operators, each one once and in their order.
+-- Assumes nothing.
 use mathlib.Core.Path.{_≡_, refl, sym, ap, ap₂, _∙_}
 use mathlib.Core.Logic.{inl, inr}
 use mathlib.Core.List.{List, [], _∷_, _++_, append-assoc, append-nil}
@@ -8,8 +9,10 @@ use Prim.Native.Nat.{ℕ, zero, suc, _+_, _≤_, _<_}
 use native.Mathlib.Nat.{le-of-suc-le-suc, eq-or-lt-of-le, not-suc-le-zero, le-refl}
 use native.Mathlib.Omega.{arith}
 use lib.Dec.{T}
+use Rattle.operator.specs.declared.operator.Operator.{Operator}
 use Rattle.tree.specs.Lines.{Line, accepted}
 use Rattle.tree.specs.Tree.{Forest, bare, grown, forestAt, treeOf}
+use Rattle.tree.specs.Chains.{chained}
 use Rattle.tree.proofs.Descent.{forest-same, forest-ended, forest-passed, next-accepted, first-accepted}
 
 -- a forest written out as lines, from a level of indent on
@@ -71,3 +74,19 @@ tree-lines [] a = refl
 tree-lines (l ∷ ls) a =
     let z = first-accepted l ls a in
     ap (λ (n : ℕ). linesAt n (forestAt n (l ∷ ls))) (sym (z .0)) ∙ unindented l ls (z .0) (z .1)
+
+-- ---- with chains
+
+-- a forest's operators, each before its children and those before its later siblings
+pub operatorsOf : Forest → List Operator
+operatorsOf bare = []
+operatorsOf (grown op kids later) = op ∷ (operatorsOf kids ++ operatorsOf later)
+
+pub chained-operators : (f : Forest) → operatorsOf (chained f) ≡ operatorsOf f
+unfolding operatorsOf chained
+chained-operators bare = refl
+chained-operators (grown op bare bare) = refl
+chained-operators (grown op bare (grown next kids later)) =
+    ap (λ (os : List Operator). op ∷ os) (append-nil (operatorsOf (chained (grown next kids later))) ∙ chained-operators (grown next kids later))
+chained-operators (grown op (grown first kids rest) later) =
+    ap₂ (λ (os ps : List Operator). op ∷ (os ++ ps)) (chained-operators (grown first kids rest)) (chained-operators later)
