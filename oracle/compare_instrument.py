@@ -1,7 +1,9 @@
 """Compares the proved instrument, by the program `ask_instrument`, with the Rust's: values at many times, and stretches of samples.
 
-The Rust has document 01's sine. oracle/instrument_cases.py has what is asked, and oracle/instruments.rs what the Rust answers. The two
-worked examples of crates/tree/proofs/Examples.antt are held against the Rust too.
+The Rust has document 01's sine. oracle/instrument_cases.py has what is asked, and oracle/instruments.rs what the Rust answers. The
+worked examples of crates/tree/proofs/Examples.antt are held against the Rust too, and both machines' value of every shape of up to
+nine lines against that of the tree with chains, which oracle/trees.py works out: inside the hypothesis of demand 3 it is that value, and
+outside it is another.
 """
 
 import re
@@ -9,18 +11,21 @@ import struct
 from fractions import Fraction
 
 import instrument_cases as cases
-from compare_numbers import SINE, frequencies, of_numbers
+import trees
+from compare_numbers import frequencies
 from dice import Dice
-from f32 import near, pattern
 from harness import ROOT, Broken, Case, hold, proved, rust
 from instrument_cases import EIGHTH, UNIT, Instrument, Stack
 
 # How often each shape of indented lines is thrown.
 COUNT = 12
-FLOORS = {"instruments": 10_000, "answers": 510_000, "values": 600_000}
-TOLD = ", and both worked examples"
+# Of the shapes of up to nine lines all are compared: so many have no two neighbours of equal indent, so many have some and are inside the hypothesis, and
+# so many are outside.
+STEPPED, CHAINED, OUTSIDE = "shapes without chains", "shapes with chains", "shapes outside"
+FLOORS = {"instruments": 10_000, "answers": 510_000, "values": 600_000, STEPPED: 539, CHAINED: 2_753, OUTSIDE: 3_625}
+TOLD = ", and five worked examples"
 EXAMPLES = ROOT / "crates" / "tree" / "proofs" / "Examples.antt"
-ASK, RUST, NUMBERS = proved("ask_instrument"), rust("ruled", "instruments"), rust("ruled", "numbers")
+ASK, RUST = proved("ask_instrument"), rust("ruled", "instruments")
 
 
 class Asked(Case):
@@ -80,31 +85,68 @@ def value_of(instrument):
     return int.from_bytes(RUST(instrument.records() + EIGHTH.record()), "little")
 
 
-def float_of(bits):
-    return Fraction(*struct.unpack("<f", struct.pack("<I", bits))[0].as_integer_ratio())
-
-
-def tree_by_parts():
-    """The tree's value from single operators: two children, their sum, and the sine that it modulates."""
-    child = float_of(value_of(Instrument((UNIT,))))
-    turn = near(2 * float_of(0x4049_0FDB) * float_of(EIGHTH.t))
-    phase = near(turn + near(child + child))
-    # The operator's amplitude and sustain, its ratio and the frequency are 1.
-    return int.from_bytes(NUMBERS(of_numbers(SINE, pattern(phase)))[4:8], "little")
-
-
 def check_examples():
-    """01's commands and the tree part where two neighbours have equal indent; both values are the Rust's."""
-    lines = cases.from_lines((0, 1, 1), (UNIT,) * 3)
+    """01's commands and the tree without chains part at 0,1,1, and the tree with chains at 0,1,2,2,1; every value is the Rust's, or made of its sines."""
+    pair, outside = (0, 1, 1), (0, 1, 2, 2, 1)
     summed = Instrument((UNIT, Stack(0), UNIT, UNIT))
+    without, chain, chain_outside = trees.sums([trees.trees_of(pair), trees.chained(pair), trees.chained(outside)], [Fraction(1)] * 5)
     for name, found in (
-        ("by-commands", value_of(lines)),
-        ("by-the-tree", tree_by_parts()),
+        ("by-commands", value_of(cases.from_lines(pair, (UNIT,) * 3))),
+        ("by-the-tree", without),
         ("by-the-tree", value_of(summed)),
+        ("by-the-chain", chain),
+        ("outside-by-commands", value_of(cases.from_lines(outside, (UNIT,) * 5))),
+        ("outside-by-the-chain", chain_outside),
     ):
         wanted = worked_example(name)
         if found != wanted:
             raise Broken(f"{name} of proofs/Examples.antt is {wanted:08x}, the Rust gives {found:08x}")
+
+
+# ---- every shape of up to nine lines
+
+
+TREE_LINES = 9
+# Each line has an amplitude of its own, so that no two operators can be taken for each other.
+AMPLITUDES = [Fraction(8 + line, 8) for line in range(TREE_LINES)]
+
+
+def kind_of(shape):
+    if not trees.chains_are_last(shape):
+        return OUTSIDE
+    return STEPPED if trees.is_stepped(shape) else CHAINED
+
+
+class Shape(Case):
+    """An instrument of lines, and the bits of its tree's value."""
+
+    def __init__(self, shape, bits):
+        request = cases.from_lines(shape, trees.operators(AMPLITUDES)).records() + EIGHTH.record()
+        super().__init__(f"the indents {shape}", request, bits.to_bytes(4, "little"), {kind_of(shape): 1})
+
+
+def hold_inside(shapes):
+    """Inside the hypothesis the Rust and the proved machine have the value of the tree with chains."""
+    hold("beside the tree with chains the Rust", RUST, shapes)
+    return hold("beside the tree with chains ask_instrument", ASK, shapes)
+
+
+def hold_outside(shapes):
+    """Outside it they have another value, the same one: the hypothesis leaves out no shape without need."""
+    answers = struct.iter_unpack("4s", RUST(b"".join(shape.request for shape in shapes)))
+    for shape, (answer,) in zip(shapes, answers, strict=True):
+        if answer == shape.wanted:
+            raise Broken(f"outside the hypothesis of demand 3 the Rust has the value of the tree with chains: {shape.told()}")
+        shape.wanted = answer
+    return hold("ask_instrument", ASK, shapes)
+
+
+def hold_trees():
+    shapes = list(cases.shapes(TREE_LINES))
+    made = [Shape(*pair) for pair in zip(shapes, trees.sums(map(trees.chained, shapes), AMPLITUDES))]
+    counts = hold_inside([shape for shape in made if OUTSIDE not in shape.counts])
+    counts.update(hold_outside([shape for shape in made if OUTSIDE in shape.counts]))
+    return counts
 
 
 # ---- the comparison
@@ -112,7 +154,9 @@ def check_examples():
 
 def compare(seed, count):
     check_examples()
-    return hold("ask_instrument", ASK, answered(cases.thrown(Dice(seed), frequencies("ruled"), count)))
+    counts = hold("ask_instrument", ASK, answered(cases.thrown(Dice(seed), frequencies("ruled"), count)))
+    counts.update(hold_trees())
+    return counts
 
 
 def kept():
