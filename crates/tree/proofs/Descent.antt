@@ -57,7 +57,7 @@ next-accepted i l ls t =
     steep b k false e h = absurd h
 
 -- after a line of indent i the next one has another indent, or none that follows has a smaller one
-next-last : (i : ℕ) (l : Line) (ls : List Line) → T (chainsLastAfter i (l ∷ ls)) → (i ≡ l .indent → T (noneBelow i ls)) × T (chainsLastAfter (l .indent) ls)
+pub next-last : (i : ℕ) (l : Line) (ls : List Line) → T (chainsLastAfter i (l ∷ ls)) → (i ≡ l .indent → T (noneBelow i ls)) × T (chainsLastAfter (l .indent) ls)
 unfolding chainsLastAfter
 next-last i l ls t =
     (paired (and-l (pairLast (eqb i (l .indent))) (chainsLastAfter (l .indent) ls) t), and-r (pairLast (eqb i (l .indent))) (chainsLastAfter (l .indent) ls) t)
