@@ -1,5 +1,5 @@
 -- Demand 3 for sheets, in either mode: every instrument of an accepted sheet in whose operator lines no two neighbours have equal indent has the value of the tree that
--- those lines describe, at any frequency, duration and time; and where each such pair is followed by no line of smaller indent, the value of the tree with chains. The lines are
+-- those lines describe, at any frequency, duration and time; and where each pair of equal indent is followed by no line of smaller indent, the value of the tree with chains. The lines are
 -- those that the definition finds in the text; that their indents are accepted and that their commands fit an instrument follows from the refusals. Assumes nothing.
 use mathlib.Core.Path.{_≡_, refl, ap, _∙_}
 use mathlib.Core.List.{List, [], _∷_, _++_, map}

@@ -3,7 +3,7 @@
 -- that forest, with the number of levels between it and the one above it on the stack. `descent` carries this from line to
 -- line: a line's children are the value, its later siblings the top of the stack. A line before one of equal indent takes the value as it is; that
 -- the stack is empty there, so that nothing is added too early, is what the hypothesis says. Assumes nothing.
-use mathlib.Core.Path.{_≡_, refl, sym, ap, ap₂, subst, _∙_}
+use mathlib.Core.Path.{_≡_, refl, sym, ap, ap₂, subst, subst⁻¹, _∙_}
 use mathlib.Core.Bool.{Bool, true, false}
 use mathlib.Core.Logic.{inl, inr}
 use mathlib.Core.List.{List, [], _∷_, _++_, reverseAux}
@@ -13,8 +13,8 @@ use native.Mathlib.Nat.{le-of-suc-le-suc, eq-or-lt-of-le, not-suc-le-zero, le-re
 use native.Mathlib.Numerals.{add-one}
 use native.Mathlib.Omega.{arith}
 use lib.Dec.{T, eqb, leb, leb→le}
-use lib.Ieee.Fits.{and-l, and-r}
-use borrow.Author.Tests.{lt-ltb, le-ltb, eq-eqb, ne-eqb, leb-true, eqb-true}
+use lib.Ieee.Fits.{and-i, and-l, and-r}
+use borrow.Author.Tests.{lt-ltb, le-ltb, eq-eqb, ne-eqb, leb-true, leb-false, eqb-true}
 use Rattle.operator.specs.declared.operator.Operator.{Operator}
 use Rattle.instrument.specs.declared.machine.Command.{Command}
 use Rattle.instrument.specs.declared.machine.Command.the-variants as Command
@@ -44,6 +44,23 @@ forest-none j i [] h t = refl
 forest-none j i (l ∷ ls) h t =
     let d : i ≤ l .indent = leb→le i (l .indent) (and-l (leb i (l .indent)) (noneBelow i ls) t) in
     forest-passed j l ls (omega arith) ∙ forest-none j i ls h (and-r (leb i (l .indent)) (noneBelow i ls) t)
+
+not-bare : (op : Operator) (kids later : Forest) → grown op kids later ≡ bare → ⊥
+not-bare op kids later e = let z : _≡_ {A = ℕ} 0 1 = cc e in absurd (omega arith)
+
+-- lines of which one has a smaller indent than i have a forest at a level below i
+some-below : (i : ℕ) (ls : List Line) → (T (noneBelow i ls) → ⊥) → (k : ℕ) × ((k < i) × (forestAt k ls ≡ bare → ⊥))
+unfolding noneBelow
+some-below i [] h = absurd (h tt)
+some-below i (l ∷ ls) h =
+    go (leb i (l .indent)) refl (λ (deep : T (leb i (l .indent))). some-below i ls (λ t. h (and-i (leb i (l .indent)) (noneBelow i ls) deep t)))
+  where
+    go : (c : Bool) → leb i (l .indent) ≡ c → (T (leb i (l .indent)) → (k : ℕ) × ((k < i) × (forestAt k ls ≡ bare → ⊥))) → (k : ℕ) × ((k < i) × (forestAt k (l ∷ ls) ≡ bare → ⊥))
+    go false e later = (l .indent, (leb-false i (l .indent) e, (λ b. not-bare (l .op) _ _ (sym (forest-same l ls) ∙ b))))
+    go true e later =
+        let p = later (subst⁻¹ T e tt) in
+        let d : i ≤ l .indent = leb-true i (l .indent) e in
+        (p .0, (p .1 .0, (λ b. p .1 .1 (sym (forest-passed (p .0) l ls (omega (arith, p .1 .0, d))) ∙ b))))
 
 -- ---- what is left of an accepted list whose chains are last
 
@@ -162,6 +179,21 @@ module _ (A : Type 0) (works : Operator → A → A) (plus : A → A → A) (not
   pend-empty zero gap i ls h t = refl
   pend-empty (suc j) gap i ls h t = rw (forest-none j i ls h t) (pend-empty j (suc gap) i ls (omega arith) t)
 
+  -- where a level below j has a forest, something is set aside, and within j operators it is added
+  abbrev pub Waits : ℕ → List (Entry A) → Type 0
+  Waits n s = (g : ℕ) × ((f : Forest) × ((rest : List (Entry A)) × ((s ≡ aside g (total f) ∷ rest) × ((g < n) × (f ≡ bare → ⊥)))))
+
+  pend-some : (j gap k : ℕ) (ls : List Line) → k < j → (forestAt k ls ≡ bare → ⊥) → Waits (gap + j) (pend j gap ls)
+  unfolding pend pendOf
+  pend-some zero gap k ls h n = absurd (not-suc-le-zero h)
+  pend-some (suc j) gap k ls h n = go (forestAt j ls) refl (λ g. pend-some j (suc gap) k ls g n)
+    where
+      go : (f : Forest) → forestAt j ls ≡ f → (k < j → Waits (suc gap + j) (pend j (suc gap) ls)) → Waits (gap + suc j) (pendOf gap f (pend j (suc gap) ls) (pend j 0 ls))
+      go bare e later =
+          subst (λ (m : ℕ). Waits m (pend j (suc gap) ls)) (omega arith)
+          (later (elim (eq-or-lt-of-le (le-of-suc-le-suc h)) [ inl z ↦ absurd (n (ap (λ (m : ℕ). forestAt m ls) z ∙ e)) | inr g ↦ g ]))
+      go (grown op kids rest) e later = (gap, (grown op kids rest, (pend j 0 ls, (refl, ((omega arith), not-bare op kids rest)))))
+
   -- ---- an operator and the stack
 
   lose-of : (w : A) (j gap : ℕ) (ls : List Line) (f : Forest) → settled A plus w (pend j (suc (suc gap)) ls) ≡ st w (pend j (suc gap) ls)
@@ -200,20 +232,32 @@ module _ (A : Type 0) (works : Operator → A → A) (plus : A → A → A) (not
 
   -- ---- from line to line
 
-  -- the value and the stack that the tree says, once the lines from l on are run
-  Tree : Line → List Line → Type 0
-  Tree l ls =
-      upward (Command.Operator (l .op) ∷ downward (some (l .indent)) ls)
-      ≡ st (total (forestAt (l .indent) (l ∷ ls))) (pend (l .indent) 0 (l ∷ ls))
+  -- what the tree says of the value and the stack once the lines from l on are run, and what the machine has then
+  pub said : Line → List Line → State A
+  said l ls = st (total (forestAt (l .indent) (l ∷ ls))) (pend (l .indent) 0 (l ∷ ls))
 
-  -- the same, from the lines after l
-  says : (l : Line) (ls : List Line) (w : A) → w ≡ total (grown (l .op) (forestAt (suc (l .indent)) ls) (forestAt (l .indent) ls))
-      → st w (pend (l .indent) 0 ls) ≡ st (total (forestAt (l .indent) (l ∷ ls))) (pend (l .indent) 0 (l ∷ ls))
+  pub ran : Line → List Line → State A
+  ran l ls = upward (Command.Operator (l .op) ∷ downward (some (l .indent)) ls)
+
+  pub ran-deeper : (l m : Line) (ms : List Line) → l .indent ≤ m .indent → ran l (m ∷ ms) ≡ step A works plus nothing (Command.Operator (l .op)) (ran m ms)
+  unfolding ran upward downward
+  ran-deeper l m ms h =
+      ap (λ (os : List Command). step A works plus nothing (Command.Operator (l .op)) (upward (os ++ (Command.Operator (m .op) ∷ downward (some (m .indent)) ms)))) (outdent-none (l .indent) (m .indent) h)
+
+  pub ran-outdent : (l m : Line) (ms : List Line) → m .indent < l .indent
+      → ran l (m ∷ ms) ≡ step A works plus nothing (Command.Operator (l .op)) (step A works plus nothing (Command.Stack (l .indent - m .indent)) (ran m ms))
+  unfolding ran upward downward
+  ran-outdent l m ms h =
+      ap (λ (os : List Command). step A works plus nothing (Command.Operator (l .op)) (upward (os ++ (Command.Operator (m .op) ∷ downward (some (m .indent)) ms)))) (outdent-some (l .indent) (m .indent) h)
+
+  -- what the tree says, from the lines after l
+  says : (l : Line) (ls : List Line) (w : A) → w ≡ total (grown (l .op) (forestAt (suc (l .indent)) ls) (forestAt (l .indent) ls)) → st w (pend (l .indent) 0 ls) ≡ said l ls
+  unfolding said
   says l ls w e = rw (forest-same l ls, pend-passed (l .indent) 0 l ls (le-refl (l .indent))) (ap (λ (v : A). st v (pend (l .indent) 0 ls)) e)
 
   -- the last line
-  last-line : (l : Line) → Tree l []
-  unfolding Tree upward step settled downward forestAt chained sum withLater
+  pub last-line : (l : Line) → ran l [] ≡ said l []
+  unfolding ran upward step settled downward forestAt chained sum withLater
   last-line l = ap (st (works (l .op) nothing)) (sym (pend-none (l .indent) 0)) ∙ says l [] (works (l .op) nothing) refl
 
   -- the value of a line before its first child
@@ -227,14 +271,12 @@ module _ (A : Type 0) (works : Operator → A → A) (plus : A → A → A) (not
       (sym (with-kids (l .op) (m .op) (forestAt (suc (m .indent)) ms) (forestAt (m .indent) ms) L))
 
   -- a line followed by its first child: the child's forest is the value, the later siblings are the top of the stack
-  above-child : (l m : Line) (ms : List Line) → m .indent ≡ suc (l .indent) → Tree m ms → Tree l (m ∷ ms)
-  unfolding Tree upward step downward pend
-  above-child l m ms e h =
+  pub above-child : (l m : Line) (ms : List Line) → m .indent ≡ suc (l .indent) → step A works plus nothing (Command.Operator (l .op)) (said m ms) ≡ said l (m ∷ ms)
+  unfolding said step pend
+  above-child l m ms e =
       let i = l .indent in
       let S = m ∷ ms in
-      ap (λ (os : List Command). step A works plus nothing (Command.Operator (l .op)) (upward (os ++ (Command.Operator (m .op) ∷ downward (some (m .indent)) ms)))) (outdent-none i (m .indent) (omega arith))
-      ∙ ap (step A works plus nothing (Command.Operator (l .op))) h
-      ∙ ap (λ (n : ℕ). settled A plus (works (l .op) (total (forestAt n S))) (pend n 0 S)) e
+      ap (λ (n : ℕ). settled A plus (works (l .op) (total (forestAt n S))) (pend n 0 S)) e
       ∙ meet (works (l .op) (total (forestAt (suc i) S))) i S (forestAt i S)
       ∙ says l S _ (over-child l m ms e)
 
@@ -245,17 +287,16 @@ module _ (A : Type 0) (works : Operator → A → A) (plus : A → A → A) (not
   alone l m ms h = rw (forest-ended (suc (l .indent)) m ms (omega arith), forest-ended (l .indent) m ms h)
 
   -- a line followed by one of smaller indent: it has neither children nor later siblings, and that line's forest is set aside
-  above-outdent : (l m : Line) (ms : List Line) → m .indent < l .indent → Tree m ms → Tree l (m ∷ ms)
-  unfolding Tree upward step settled topped downward
-  above-outdent l m ms h t =
+  pub above-outdent : (l m : Line) (ms : List Line) → m .indent < l .indent
+      → step A works plus nothing (Command.Operator (l .op)) (step A works plus nothing (Command.Stack (l .indent - m .indent)) (said m ms)) ≡ said l (m ∷ ms)
+  unfolding said step settled topped
+  above-outdent l m ms h =
       let i = l .indent in
       let k = m .indent in
       let S = m ∷ ms in
       let v = total (forestAt k S) in
       let w = works (l .op) nothing in
-      ap (λ (os : List Command). step A works plus nothing (Command.Operator (l .op)) (upward (os ++ (Command.Operator (m .op) ∷ downward (some k) ms)))) (outdent-some i k h)
-      ∙ ap (λ (s : State A). step A works plus nothing (Command.Operator (l .op)) (step A works plus nothing (Command.Stack (i - k)) s)) t
-      ∙ ap (λ (n : ℕ). topped A plus w n v (pend k 0 S)) (one-less i k h)
+      ap (λ (n : ℕ). topped A plus w n v (pend k 0 S)) (one-less i k h)
       ∙ ap (st w) (sym (pend-down i 0 m ms h ∙ ap (λ (n : ℕ). aside n v ∷ pend k 0 S) (zero-add (i - suc k))))
       ∙ says l S w (alone l m ms h)
 
@@ -266,39 +307,62 @@ module _ (A : Type 0) (works : Operator → A → A) (plus : A → A → A) (not
       let same = subst (λ (n : ℕ). forestAt n (m ∷ ms) ≡ grown (m .op) (forestAt (suc (m .indent)) ms) (forestAt (m .indent) ms)) (sym e) (forest-same m ms) in
       rw (forest-ended (suc (l .indent)) m ms (omega arith), same) (sym (in-chain (l .op) (m .op) (forestAt (suc (m .indent)) ms) (forestAt (m .indent) ms)))
 
-  -- a line followed by one of equal indent, with none of smaller indent later: the stack is empty, and the forest that the next line begins is the value
-  above-equal : (l m : Line) (ms : List Line) → l .indent ≡ m .indent → T (noneBelow (l .indent) ms) → Tree m ms → Tree l (m ∷ ms)
-  unfolding Tree upward step settled downward
-  above-equal l m ms e q t =
-      let i = l .indent in
-      let S = m ∷ ms in
-      let none-aside : pend i 0 S ≡ [] = pend-passed i 0 m ms (omega arith) ∙ pend-empty i 0 i ms (le-refl i) q in
-      ap (λ (os : List Command). step A works plus nothing (Command.Operator (l .op)) (upward (os ++ (Command.Operator (m .op) ∷ downward (some (m .indent)) ms)))) (outdent-none i (m .indent) (omega arith))
-      ∙ ap (step A works plus nothing (Command.Operator (l .op))) t
-      ∙ ap (λ (n : ℕ). settled A plus (works (l .op) (total (forestAt n S))) (pend n 0 S)) (sym e)
-      ∙ ap (settled A plus (works (l .op) (total (forestAt i S)))) none-aside
-      ∙ ap (st (works (l .op) (total (forestAt i S)))) (sym none-aside)
-      ∙ says l S _ (over-equal l m ms e)
+  -- a line followed by one of equal indent: the forest that the next line begins is the value, and the tree takes nothing from the stack
+  pub beside-equal : (l m : Line) (ms : List Line) → l .indent ≡ m .indent → st (works (l .op) (said m ms .value)) (said m ms .stack) ≡ said l (m ∷ ms)
+  unfolding said
+  beside-equal l m ms e =
+      ap (λ (n : ℕ). st (works (l .op) (total (forestAt n (m ∷ ms)))) (pend n 0 (m ∷ ms))) (sym e) ∙ says l (m ∷ ms) _ (over-equal l m ms e)
+
+  -- nor does the machine, where none of smaller indent is later: there is nothing on the stack
+  none-aside : (m : Line) (ms : List Line) → T (noneBelow (m .indent) ms) → said m ms .stack ≡ []
+  unfolding said
+  none-aside m ms q = pend-passed (m .indent) 0 m ms (le-refl (m .indent)) ∙ pend-empty (m .indent) 0 (m .indent) ms (le-refl (m .indent)) q
+
+  pub some-aside : (m : Line) (ms : List Line) → (T (noneBelow (m .indent) ms) → ⊥) → Waits (m .indent) (said m ms .stack)
+  unfolding said
+  some-aside m ms h =
+      let p = some-below (m .indent) ms h in
+      subst⁻¹ (λ (s : List (Entry A)). Waits (m .indent) s) (pend-passed (m .indent) 0 m ms (le-refl (m .indent)))
+      (subst (λ (n : ℕ). Waits n (pend (m .indent) 0 ms)) (zero-add (m .indent)) (pend-some (m .indent) 0 (p .0) ms (p .1 .0) (p .1 .1)))
+
+  nothing-taken : (op : Operator) (s : State A) → s .stack ≡ [] → step A works plus nothing (Command.Operator op) s ≡ st (works op (s .value)) (s .stack)
+  unfolding step settled
+  nothing-taken op s e = rw e
+
+  above-equal : (l m : Line) (ms : List Line) → l .indent ≡ m .indent → T (noneBelow (m .indent) ms) → step A works plus nothing (Command.Operator (l .op)) (said m ms) ≡ said l (m ∷ ms)
+  above-equal l m ms e q = nothing-taken (l .op) (said m ms) (none-aside m ms q) ∙ beside-equal l m ms e
 
   -- every line, from the last one up
-  descent : (l : Line) (ls : List Line) → T (accepted (some (l .indent)) ls) → T (chainsLastAfter (l .indent) ls) → Tree l ls
+  descent : (l : Line) (ls : List Line) → T (accepted (some (l .indent)) ls) → T (chainsLastAfter (l .indent) ls) → ran l ls ≡ said l ls
   descent l [] a s = last-line l
   descent l (m ∷ ms) a s =
       let p = next-accepted (l .indent) m ms a in
       let q = next-last (l .indent) m ms s in
       let t = descent m ms (p .1) (q .1) in
+      let works-on = step A works plus nothing (Command.Operator (l .op)) in
       elim (eq-or-lt-of-le (subst (λ (n : ℕ). m .indent ≤ n) (add-one (l .indent)) (p .0))) [
-        | inl e ↦ above-child l m ms e t
+        | inl e ↦ ran-deeper l m ms (omega arith) ∙ ap works-on t ∙ above-child l m ms e
         | inr g ↦
-            elim (eq-or-lt-of-le (le-of-suc-le-suc g))
-            [ inl e ↦ above-equal l m ms (sym e) (q .0 (sym e)) t | inr h ↦ above-outdent l m ms h t ]
+            elim (eq-or-lt-of-le (le-of-suc-le-suc g)) [
+              | inl e ↦ ran-deeper l m ms (omega arith) ∙ ap works-on t ∙ above-equal l m ms (sym e) (subst (λ (n : ℕ). T (noneBelow n ms)) (sym e) (q .0 (sym e)))
+              | inr h ↦
+                  ran-outdent l m ms h ∙ ap (λ (x : State A). works-on (step A works plus nothing (Command.Stack (l .indent - m .indent)) x)) t ∙ above-outdent l m ms h
+            ]
       ]
 
+  -- ---- the whole list
+
+  pub machine-ran : (l : Line) (ls : List Line) → machine A works plus nothing (commandsOf (l ∷ ls)) ≡ ran l ls .value
+  unfolding ran machine run commandsOf downward outdent
+  machine-ran l ls = ap (λ (x : State A). x .value) (upward-run (Command.Operator (l .op) ∷ downward (some (l .indent)) ls) [])
+
+  pub tree-said : (l : Line) (ls : List Line) → l .indent ≡ 0 → said l ls .value ≡ total (treeOf (l ∷ ls))
+  unfolding said treeOf
+  tree-said l ls z = ap (λ (n : ℕ). total (forestAt n (l ∷ ls))) z
+
   pub tree-value : (ls : List Line) → T (accepted none ls) → T (chainsLast ls) → machine A works plus nothing (commandsOf ls) ≡ total (treeOf ls)
-  unfolding Tree machine run commandsOf downward outdent treeOf forestAt chained sum accepted chainsLast
+  unfolding machine run commandsOf downward outdent treeOf forestAt chained sum accepted chainsLast
   tree-value [] a s = refl
   tree-value (l ∷ ls) a s =
       let z = first-accepted l ls a in
-      ap (λ (x : State A). x .value) (upward-run (Command.Operator (l .op) ∷ downward (some (l .indent)) ls) [])
-      ∙ ap (λ (x : State A). x .value) (descent l ls (z .1) s)
-      ∙ ap (λ (n : ℕ). total (forestAt n (l ∷ ls))) (z .0)
+      machine-ran l ls ∙ ap (λ (x : State A). x .value) (descent l ls (z .1) s) ∙ tree-said l ls (z .0)

@@ -1,7 +1,7 @@
 -- Worked examples, by computation. Document 01: "Indents 0,1,2,1: Op4, Stack 1, Op3, Op2, Op1"; "Indents 0,2: 16". One where two
 -- neighbours have equal indent: the commands and the tree without chains part, so the hypothesis of demand 3 is needed; with its chain the tree has the commands' value.
 -- And one where a line of smaller indent follows such a pair: the commands and the tree with chains part. Assumes nothing.
-use mathlib.Core.Path.{_≡_, refl, _∙_}
+use mathlib.Core.Path.{_≡_, refl}
 use mathlib.Core.Bool.{true, false}
 use mathlib.Core.List.{List, [], _∷_}
 use mathlib.Core.Option.{none}
@@ -55,7 +55,7 @@ chain-of-three a b c = refl
 pub three-in-turn : (A : Type 0) (works : Operator → A → A) (plus : A → A → A) (nothing : A) (a b c : Operator)
     → machine A works plus nothing (commandsOf (three a b c)) ≡ works a (works b (works c nothing))
 unfolding accepted chainsLast chained treeOf sum
-three-in-turn A works plus nothing a b c = demand3-with-chains A works plus nothing (three a b c) tt tt ∙ refl
+three-in-turn A works plus nothing a b c = demand3-with-chains A works plus nothing (three a b c) tt tt
 
 -- ---- equal neighbours
 

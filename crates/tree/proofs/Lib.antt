@@ -2,6 +2,7 @@ pub mod Accepted
 pub mod CommandCount
 pub mod Demand3
 pub mod Descent
+pub mod Exact
 pub mod Examples
 pub mod InWords
 pub mod Pairs
