@@ -5,7 +5,7 @@
 -- the stack is empty there, so that nothing is added too early, is what the hypothesis says. Assumes nothing.
 use mathlib.Core.Path.{_≡_, refl, sym, ap, ap₂, subst, subst⁻¹, _∙_}
 use mathlib.Core.Bool.{Bool, true, false}
-use mathlib.Core.Logic.{inl, inr}
+use mathlib.Core.Logic.{_⊎_, inl, inr}
 use mathlib.Core.List.{List, [], _∷_, _++_, reverseAux}
 use mathlib.Core.Option.{none, some}
 use Prim.Native.Nat.{ℕ, zero, suc, _+_, _-_, _≤_, _<_}
@@ -28,6 +28,9 @@ use Rattle.tree.specs.Chains.{chained, noneBelow, chainsLastAfter, chain
 pub forest-same : (l : Line) (ls : List Line) → forestAt (l .indent) (l ∷ ls) ≡ grown (l .op) (forestAt (suc (l .indent)) ls) (forestAt (l .indent) ls)
 unfolding forestAt
 forest-same l ls = rw (eq-eqb (l .indent) (l .indent) refl, forestAt)
+
+pub forest-here : (j : ℕ) (l : Line) (ls : List Line) → l .indent ≡ j → forestAt j (l ∷ ls) ≡ grown (l .op) (forestAt (suc (l .indent)) ls) (forestAt (l .indent) ls)
+forest-here j l ls e = ap (λ (n : ℕ). forestAt n (l ∷ ls)) (sym e) ∙ forest-same l ls
 
 pub forest-ended : (j : ℕ) (l : Line) (ls : List Line) → l .indent < j → forestAt j (l ∷ ls) ≡ bare
 unfolding forestAt
@@ -73,17 +76,30 @@ next-accepted i l ls t =
     steep b k true e h = leb-true k (b + 1) e
     steep b k false e h = absurd h
 
--- after a line of indent i the next one has another indent, or none that follows has a smaller one
-pub next-last : (i : ℕ) (l : Line) (ls : List Line) → T (chainsLastAfter i (l ∷ ls)) → (i ≡ l .indent → T (noneBelow i ls)) × T (chainsLastAfter (l .indent) ls)
-unfolding chainsLastAfter
-next-last i l ls t =
-    (paired (and-l (pairLast (eqb i (l .indent))) (chainsLastAfter (l .indent) ls) t), and-r (pairLast (eqb i (l .indent))) (chainsLastAfter (l .indent) ls) t)
-  where
-    pairLast : Bool → Bool
-    pairLast b = elim b [ true ↦ noneBelow i ls | false ↦ true ]
+-- so the next line is a child, or has equal indent, or a smaller one
+pub next-line : (i : ℕ) (l : Line) (ls : List Line) → T (accepted (some i) (l ∷ ls)) → (l .indent ≡ suc i) ⊎ ((i ≡ l .indent) ⊎ (l .indent < i))
+next-line i l ls a =
+    elim (eq-or-lt-of-le (subst (λ (n : ℕ). l .indent ≤ n) (add-one i) (next-accepted i l ls a .0))) [
+      | inl e ↦ inl e
+      | inr g ↦ inr (elim (eq-or-lt-of-le (le-of-suc-le-suc g)) [ inl e ↦ inl (sym e) | inr h ↦ inr h ])
+    ]
 
-    paired : T (pairLast (eqb i (l .indent))) → i ≡ l .indent → T (noneBelow i ls)
-    paired h e = subst (λ (b : Bool). T (pairLast b)) (eq-eqb i (l .indent) e) h
+-- chains are last after a line of indent i where they are after the next one, and where this has that indent none that follows has a smaller one
+pairLast : ℕ → List Line → Bool → Bool
+pairLast i ls b = elim b [ true ↦ noneBelow i ls | false ↦ true ]
+
+pub next-last : (i : ℕ) (l : Line) (ls : List Line) → T (chainsLastAfter i (l ∷ ls)) → (i ≡ l .indent → T (noneBelow i ls)) × T (chainsLastAfter (l .indent) ls)
+unfolding chainsLastAfter pairLast
+next-last i l ls t =
+    ((λ e. subst (λ (b : Bool). T (pairLast i ls b)) (eq-eqb i (l .indent) e) (and-l (pairLast i ls (eqb i (l .indent))) (chainsLastAfter (l .indent) ls) t)), and-r (pairLast i ls (eqb i (l .indent))) (chainsLastAfter (l .indent) ls) t)
+
+pub pair-last : (i : ℕ) (l : Line) (ls : List Line) → (i ≡ l .indent → T (noneBelow i ls)) → T (chainsLastAfter (l .indent) ls) → T (chainsLastAfter i (l ∷ ls))
+unfolding chainsLastAfter pairLast
+pair-last i l ls h t = and-i (pairLast i ls (eqb i (l .indent))) (chainsLastAfter (l .indent) ls) (go (eqb i (l .indent)) refl) t
+  where
+    go : (b : Bool) → eqb i (l .indent) ≡ b → T (pairLast i ls b)
+    go true e = h (eqb-true i (l .indent) e)
+    go false e = tt
 
 pub first-accepted : (l : Line) (ls : List Line) → T (accepted none (l ∷ ls)) → (l .indent ≡ 0) × T (accepted (some (l .indent)) ls)
 unfolding accepted
@@ -266,8 +282,7 @@ module _ (A : Type 0) (works : Operator → A → A) (plus : A → A → A) (not
       ≡ total (grown (l .op) (forestAt (suc (l .indent)) (m ∷ ms)) (forestAt (l .indent) (m ∷ ms)))
   over-child l m ms e =
       let L = forestAt (l .indent) (m ∷ ms) in
-      let same = subst (λ (n : ℕ). forestAt n (m ∷ ms) ≡ grown (m .op) (forestAt (suc (m .indent)) ms) (forestAt (m .indent) ms)) e (forest-same m ms) in
-      subst (λ (K : Forest). withLater A works plus nothing (works (l .op) (total K)) (chained L) (total L) ≡ total (grown (l .op) K L)) (sym same)
+      subst (λ (K : Forest). withLater A works plus nothing (works (l .op) (total K)) (chained L) (total L) ≡ total (grown (l .op) K L)) (sym (forest-here (suc (l .indent)) m ms e))
       (sym (with-kids (l .op) (m .op) (forestAt (suc (m .indent)) ms) (forestAt (m .indent) ms) L))
 
   -- a line followed by its first child: the child's forest is the value, the later siblings are the top of the stack
@@ -304,8 +319,7 @@ module _ (A : Type 0) (works : Operator → A → A) (plus : A → A → A) (not
   over-equal : (l m : Line) (ms : List Line) → l .indent ≡ m .indent
       → works (l .op) (total (forestAt (l .indent) (m ∷ ms))) ≡ total (grown (l .op) (forestAt (suc (l .indent)) (m ∷ ms)) (forestAt (l .indent) (m ∷ ms)))
   over-equal l m ms e =
-      let same = subst (λ (n : ℕ). forestAt n (m ∷ ms) ≡ grown (m .op) (forestAt (suc (m .indent)) ms) (forestAt (m .indent) ms)) (sym e) (forest-same m ms) in
-      rw (forest-ended (suc (l .indent)) m ms (omega arith), same) (sym (in-chain (l .op) (m .op) (forestAt (suc (m .indent)) ms) (forestAt (m .indent) ms)))
+      rw (forest-ended (suc (l .indent)) m ms (omega arith), forest-here (l .indent) m ms (sym e)) (sym (in-chain (l .op) (m .op) (forestAt (suc (m .indent)) ms) (forestAt (m .indent) ms)))
 
   -- a line followed by one of equal indent: the forest that the next line begins is the value, and the tree takes nothing from the stack
   pub beside-equal : (l m : Line) (ms : List Line) → l .indent ≡ m .indent → st (works (l .op) (said m ms .value)) (said m ms .stack) ≡ said l (m ∷ ms)
@@ -336,18 +350,13 @@ module _ (A : Type 0) (works : Operator → A → A) (plus : A → A → A) (not
   descent : (l : Line) (ls : List Line) → T (accepted (some (l .indent)) ls) → T (chainsLastAfter (l .indent) ls) → ran l ls ≡ said l ls
   descent l [] a s = last-line l
   descent l (m ∷ ms) a s =
-      let p = next-accepted (l .indent) m ms a in
       let q = next-last (l .indent) m ms s in
-      let t = descent m ms (p .1) (q .1) in
+      let t = descent m ms (next-accepted (l .indent) m ms a .1) (q .1) in
       let works-on = step A works plus nothing (Command.Operator (l .op)) in
-      elim (eq-or-lt-of-le (subst (λ (n : ℕ). m .indent ≤ n) (add-one (l .indent)) (p .0))) [
+      elim (next-line (l .indent) m ms a) [
         | inl e ↦ ran-deeper l m ms (omega arith) ∙ ap works-on t ∙ above-child l m ms e
-        | inr g ↦
-            elim (eq-or-lt-of-le (le-of-suc-le-suc g)) [
-              | inl e ↦ ran-deeper l m ms (omega arith) ∙ ap works-on t ∙ above-equal l m ms (sym e) (subst (λ (n : ℕ). T (noneBelow n ms)) (sym e) (q .0 (sym e)))
-              | inr h ↦
-                  ran-outdent l m ms h ∙ ap (λ (x : State A). works-on (step A works plus nothing (Command.Stack (l .indent - m .indent)) x)) t ∙ above-outdent l m ms h
-            ]
+        | inr (inl e) ↦ ran-deeper l m ms (omega arith) ∙ ap works-on t ∙ above-equal l m ms e (subst (λ (n : ℕ). T (noneBelow n ms)) e (q .0 e))
+        | inr (inr h) ↦ ran-outdent l m ms h ∙ ap (λ (x : State A). works-on (step A works plus nothing (Command.Stack (l .indent - m .indent)) x)) t ∙ above-outdent l m ms h
       ]
 
   -- ---- the whole list

@@ -8,19 +8,17 @@ use mathlib.Core.Logic.{_⊎_, inl, inr}
 use mathlib.Core.List.{List, [], _∷_}
 use mathlib.Core.Option.{none, some}
 use Prim.Native.Nat.{ℕ, zero, suc, _+_, _-_, _≤_, _<_}
-use native.Mathlib.Nat.{le-of-suc-le-suc, eq-or-lt-of-le, not-suc-le-zero, zero-add, suc-add}
-use native.Mathlib.Numerals.{add-one}
+use native.Mathlib.Nat.{le-of-suc-le-suc, not-suc-le-zero, zero-add, suc-add}
 use native.Mathlib.Omega.{arith}
 use lib.Dec.{T, eqb}
-use lib.Ieee.Fits.{and-i}
-use borrow.Author.Tests.{eqb-true}
+use borrow.Author.Tests.{eq-eqb, eqb-true}
 use Rattle.operator.specs.declared.operator.Operator.{Operator}
 use Rattle.instrument.specs.declared.machine.Command.the-variants as Command
 use Rattle.instrument.specs.Machine.{Entry, State, topped, settled, step, machine}
 use Rattle.tree.specs.Lines.{Line, accepted, commandsOf}
 use Rattle.tree.specs.Tree.{Forest, bare, grown, treeOf, withLater, sum}
 use Rattle.tree.specs.Chains.{chained, noneBelow, chainsLastAfter, chainsLast}
-use Rattle.tree.proofs.Descent.{next-accepted, first-accepted, said, ran, ran-deeper, ran-outdent, last-line, above-child, above-outdent, beside-equal, some-aside, machine-ran, tree-said}
+use Rattle.tree.proofs.Descent.{next-accepted, next-line, first-accepted, said, ran, ran-deeper, ran-outdent, last-line, above-child, above-outdent, beside-equal, some-aside, machine-ran, tree-said, pair-last}
 
 -- ---- the operator and the sum
 
@@ -121,18 +119,16 @@ after-set (suc n) k i w x s e =
 
 -- ---- from line to line
 
--- the tree's state and the machine's, and how they stand to each other at a level
+-- the tree's state and the machine's
 abbrev S : Line → List Line → State ℕ
 S l ls = said ℕ doubled _+_ 0 l ls
 
 abbrev R : Line → List Line → State ℕ
 R l ls = ran ℕ doubled _+_ 0 l ls
 
-abbrev Behind : Line → List Line → Type 0
-Behind l ls = after (l .indent) (S l ls) ≤ after (l .indent) (R l ls)
-
-abbrev Past : Line → List Line → Type 0
-Past l ls = after (l .indent) (S l ls) < after (l .indent) (R l ls)
+-- the machine's is at least d larger, at the line's level
+abbrev Ahead : ℕ → Line → List Line → Type 0
+Ahead d l ls = after (l .indent) (S l ls) + d ≤ after (l .indent) (R l ls)
 
 -- a line above its first child: both go on by one operator
 child-said : (l m : Line) (ms : List Line) → m .indent ≡ suc (l .indent) → after (l .indent) (S l (m ∷ ms)) ≡ after (m .indent) (S m ms)
@@ -201,59 +197,42 @@ equal-least m ms = after-least (m .indent) (S m ms .value) (S m ms .stack)
 
 -- ---- every line, from the last one up
 
-behind : (l : Line) (ls : List Line) → T (accepted (some (l .indent)) ls) → Behind l ls
-behind l [] a = subst (λ (s : State ℕ). after (l .indent) (S l []) ≤ after (l .indent) s) (sym (last-line ℕ doubled _+_ 0 l)) (omega arith)
-behind l (m ∷ ms) a =
-    let p = next-accepted (l .indent) m ms a in
-    let h = behind m ms (p .1) in
-    elim (eq-or-lt-of-le (subst (λ (n : ℕ). m .indent ≤ n) (add-one (l .indent)) (p .0))) [
+-- what the machine is ahead by, it stays ahead by
+carried : (d : ℕ) (l m : Line) (ms : List Line) → T (accepted (some (l .indent)) (m ∷ ms)) → Ahead d m ms → Ahead d l (m ∷ ms)
+carried d l m ms a h =
+    elim (next-line (l .indent) m ms a) [
       | inl e ↦ omega (arith, child-said l m ms e, child-ran l m ms e, h)
-      | inr g ↦
-          elim (eq-or-lt-of-le (le-of-suc-le-suc g)) [
-            | inl e ↦ omega (arith, equal-said l m ms (sym e), equal-ran l m ms (sym e), equal-least m ms, h)
-            | inr d ↦ omega (arith, outdent-said l m ms d, outdent-ran l m ms d, h)
-          ]
+      | inr (inl e) ↦ omega (arith, equal-said l m ms e, equal-ran l m ms e, equal-least m ms, h)
+      | inr (inr g) ↦ omega (arith, outdent-said l m ms g, outdent-ran l m ms g, h)
     ]
+
+not-behind : (l : Line) (ls : List Line) → T (accepted (some (l .indent)) ls) → Ahead 0 l ls
+not-behind l [] a = subst (λ (s : State ℕ). after (l .indent) (S l []) + 0 ≤ after (l .indent) s) (sym (last-line ℕ doubled _+_ 0 l)) (omega arith)
+not-behind l (m ∷ ms) a = carried 0 l m ms a (not-behind m ms (next-accepted (l .indent) m ms a .1))
 
 -- where some pair is not last, it is this one, or one further below
 not-last : (i : ℕ) (m : Line) (ms : List Line) → (T (chainsLastAfter i (m ∷ ms)) → ⊥)
     → (T (chainsLastAfter (m .indent) ms) → ⊥) ⊎ ((i ≡ m .indent) × (T (noneBelow i ms) → ⊥))
-unfolding chainsLastAfter
 not-last i m ms n = below (chainsLastAfter (m .indent) ms) refl
   where
-    pairLast : Bool → Bool
-    pairLast b = elim b [ true ↦ noneBelow i ms | false ↦ true ]
-
-    here : T (chainsLastAfter (m .indent) ms) → (b : Bool) → eqb i (m .indent) ≡ b → (T (pairLast b) → ⊥) → (i ≡ m .indent) × (T (noneBelow i ms) → ⊥)
-    here t true e f = (eqb-true i (m .indent) e, f)
-    here t false e f = absurd (f tt)
+    here : T (chainsLastAfter (m .indent) ms) → (b : Bool) → eqb i (m .indent) ≡ b → (i ≡ m .indent) × (T (noneBelow i ms) → ⊥)
+    here t true e = (eqb-true i (m .indent) e, (λ q. n (pair-last i m ms (λ _. q) t)))
+    here t false e = absurd (n (pair-last i m ms (λ z. absurd (subst T (sym (eq-eqb i (m .indent) z) ∙ e) tt)) t))
 
     below : (c : Bool) → chainsLastAfter (m .indent) ms ≡ c → (T (chainsLastAfter (m .indent) ms) → ⊥) ⊎ ((i ≡ m .indent) × (T (noneBelow i ms) → ⊥))
     below false e = inl (λ t. subst T e t)
-    below true e =
-        let t : T (chainsLastAfter (m .indent) ms) = subst⁻¹ T e tt in
-        inr (here t (eqb i (m .indent)) refl (λ p. n (and-i (pairLast (eqb i (m .indent))) (chainsLastAfter (m .indent) ms) p t)))
+    below true e = inr (here (subst⁻¹ T e tt) (eqb i (m .indent)) refl)
 
-past : (l : Line) (ls : List Line) → T (accepted (some (l .indent)) ls) → (T (chainsLastAfter (l .indent) ls) → ⊥) → Past l ls
+ahead : (l : Line) (ls : List Line) → T (accepted (some (l .indent)) ls) → (T (chainsLastAfter (l .indent) ls) → ⊥) → Ahead 1 l ls
 unfolding chainsLastAfter
-past l [] a n = absurd (n tt)
-past l (m ∷ ms) a n =
-    let p = next-accepted (l .indent) m ms a in
-    let w = behind m ms (p .1) in
+ahead l [] a n = absurd (n tt)
+ahead l (m ∷ ms) a n =
+    let p = next-accepted (l .indent) m ms a .1 in
     elim (not-last (l .indent) m ms n) [
-      | inl r ↦
-          let h = past m ms (p .1) r in
-          elim (eq-or-lt-of-le (subst (λ (k : ℕ). m .indent ≤ k) (add-one (l .indent)) (p .0))) [
-            | inl e ↦ omega (arith, child-said l m ms e, child-ran l m ms e, h)
-            | inr g ↦
-                elim (eq-or-lt-of-le (le-of-suc-le-suc g)) [
-                  | inl e ↦ omega (arith, equal-said l m ms (sym e), equal-ran l m ms (sym e), equal-least m ms, h)
-                  | inr d ↦ omega (arith, outdent-said l m ms d, outdent-ran l m ms d, h)
-                ]
-          ]
+      | inl r ↦ carried 1 l m ms a (ahead m ms p r)
       | inr q ↦
           let waits = equal-waiting m ms (λ t. q .1 (subst⁻¹ (λ (k : ℕ). T (noneBelow k ms)) (q .0) t)) in
-          omega (arith, equal-said l m ms (q .0), equal-ran l m ms (q .0), waits, w)
+          omega (arith, equal-said l m ms (q .0), equal-ran l m ms (q .0), waits, not-behind m ms p)
     ]
 
 -- ---- the whole list
@@ -264,7 +243,7 @@ unfolding chainsLast after
 outside-larger [] a n = absurd (n tt)
 outside-larger (l ∷ ls) a n =
     let z = first-accepted l ls a in
-    let h : S l ls .value < R l ls .value = subst (λ (k : ℕ). after k (S l ls) < after k (R l ls)) (z .0) (past l ls (z .1) n) in
+    let h : S l ls .value + 1 ≤ R l ls .value = subst (λ (k : ℕ). after k (S l ls) + 1 ≤ after k (R l ls)) (z .0) (ahead l ls (z .1) n) in
     omega (arith, h, tree-said ℕ doubled _+_ 0 l ls (z .0), machine-ran ℕ doubled _+_ 0 l ls)
 
 -- accepted lines of which the commands give the tree's value, whatever the values, the operator, the sum and the zero, are those of the hypothesis

@@ -1,15 +1,13 @@
 -- The hypothesis of demand 3 with chains, in the request's words: "each such pair is followed, anywhere later in the instrument, by no line of smaller indent than the pair". The
 -- definition, which is executable, says just that: neither more (`last-in-words`) nor less (`words-last`). Assumes nothing.
 use mathlib.Core.Path.{_≡_, refl, ap, subst}
-use mathlib.Core.Bool.{Bool, true, false}
 use mathlib.Core.List.{List, [], _∷_, _++_}
 use Prim.Native.Nat.{ℕ, _≤_}
-use lib.Dec.{T, eqb, leb, leb→le, le→leb}
+use lib.Dec.{T, leb, leb→le, le→leb}
 use lib.Ieee.Fits.{and-i, and-l, and-r}
-use borrow.Author.Tests.{eqb-true}
 use Rattle.tree.specs.Lines.{Line}
 use Rattle.tree.specs.Chains.{noneBelow, chainsLastAfter, chainsLast}
-use Rattle.tree.proofs.Descent.{next-last}
+use Rattle.tree.proofs.Descent.{next-last, pair-last}
 
 -- wherever a line l is directly followed by a line m of equal indent, and x is any later line, the indent of x is not smaller
 abbrev pub InWords : List Line → Type 0
@@ -53,14 +51,6 @@ unfolding chainsLast chainsLastAfter
 words-last [] w = tt
 words-last (l ∷ []) w = tt
 words-last (l ∷ (m ∷ ms)) w =
-    and-i (pairLast (eqb (l .indent) (m .indent))) (chainsLastAfter (m .indent) ms) (pair (eqb (l .indent) (m .indent)) refl)
+    pair-last (l .indent) m ms
+    (λ e. words-below (l .indent) ms (λ between after x s. w [] between after l m x (ap (λ (ks : List Line). l ∷ m ∷ ks) s) e))
     (words-last (m ∷ ms) (λ before between after a b x s e. w (l ∷ before) between after a b x (ap (λ (ks : List Line). l ∷ ks) s) e))
-  where
-    pairLast : Bool → Bool
-    pairLast c = elim c [ true ↦ noneBelow (l .indent) ms | false ↦ true ]
-
-    pair : (c : Bool) → eqb (l .indent) (m .indent) ≡ c → T (pairLast c)
-    pair false z = tt
-    pair true z =
-        words-below (l .indent) ms
-        (λ between after x s. w [] between after l m x (ap (λ (ks : List Line). l ∷ m ∷ ks) s) (eqb-true (l .indent) (m .indent) z))

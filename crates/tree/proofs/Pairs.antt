@@ -1,7 +1,7 @@
 -- Pairs of neighbouring lines of equal indent, and the tree with chains where there is none. In an accepted list a line is childless and has a later sibling just where the
 -- next line has its indent (`paired`, `unpaired`): so `chained`, which looks at the tree, is request T-13's chain, which looks at the lines. Where no two neighbours have equal
 -- indent, the hypothesis of demand 3 with chains holds (`stepped-last`) and the tree is as it was (`stepped-same`). Assumes nothing.
-use mathlib.Core.Path.{_≡_, refl, sym, ap, ap₂, subst, _∙_}
+use mathlib.Core.Path.{_≡_, refl, sym, ap₂, subst}
 use mathlib.Core.Bool.{Bool, true, false, not}
 use mathlib.Core.Logic.{_⊎_, inl, inr}
 use mathlib.Core.List.{List, [], _∷_}
@@ -12,12 +12,12 @@ use native.Mathlib.Numerals.{add-one}
 use native.Mathlib.Omega.{arith}
 use lib.Dec.{T, eqb, leb}
 use lib.Ieee.Fits.{and-l, and-r}
-use borrow.Author.Tests.{eq-eqb, ne-eqb, leb-true, leb-false}
+use borrow.Author.Tests.{eq-eqb, leb-true, leb-false}
 use Rattle.operator.specs.declared.operator.Operator.{Operator}
 use Rattle.tree.specs.Lines.{Line, accepted}
 use Rattle.tree.specs.Tree.{Forest, bare, grown, forestAt, treeOf, steppedAfter, stepped}
 use Rattle.tree.specs.Chains.{chained, chainsLastAfter, chainsLast}
-use Rattle.tree.proofs.Descent.{forest-same, forest-ended, forest-passed, next-accepted, first-accepted}
+use Rattle.tree.proofs.Descent.{forest-same, forest-here, forest-ended, forest-passed, next-accepted, first-accepted, pair-last}
 
 -- ---- pairs
 
@@ -25,7 +25,7 @@ use Rattle.tree.proofs.Descent.{forest-same, forest-ended, forest-passe
 pub paired : (l m : Line) (ms : List Line) → l .indent ≡ m .indent
     → (forestAt (suc (l .indent)) (m ∷ ms) ≡ bare) × (forestAt (l .indent) (m ∷ ms) ≡ grown (m .op) (forestAt (suc (m .indent)) ms) (forestAt (m .indent) ms))
 paired l m ms e =
-    (forest-ended (suc (l .indent)) m ms (omega arith), ap (λ (n : ℕ). forestAt n (m ∷ ms)) e ∙ forest-same m ms)
+    (forest-ended (suc (l .indent)) m ms (omega arith), forest-here (l .indent) m ms (sym e))
 
 -- a line before one of another indent has it as its first child, or has neither children nor later siblings
 pub unpaired : (l m : Line) (ms : List Line) → m .indent ≤ suc (l .indent) → (l .indent ≡ m .indent → ⊥)
@@ -33,9 +33,26 @@ pub unpaired : (l m : Line) (ms : List Line) → m .indent ≤ suc (l .indent) �
     ⊎ ((forestAt (suc (l .indent)) (m ∷ ms) ≡ bare) × (forestAt (l .indent) (m ∷ ms) ≡ bare))
 unpaired l m ms h n =
     elim (eq-or-lt-of-le h) [
-      | inl e ↦ inl (ap (λ (j : ℕ). forestAt j (m ∷ ms)) (sym e) ∙ forest-same m ms)
+      | inl e ↦ inl (forest-here (suc (l .indent)) m ms e)
       | inr g ↦ inr (forest-ended (suc (l .indent)) m ms g, forest-ended (l .indent) m ms (omega arith))
     ]
+
+-- So the tree with chains is, line by line, what the request says, of every accepted list: a line before one of equal indent is modulated by the forest that this one begins, and the sum
+-- ends with it; any other has its children and its later siblings, as in the tree without chains.
+pub chain-here : (l m : Line) (ms : List Line) → l .indent ≡ m .indent
+    → chained (forestAt (l .indent) (l ∷ m ∷ ms)) ≡ grown (l .op) (chained (forestAt (l .indent) (m ∷ ms))) bare
+unfolding chained
+chain-here l m ms e = let p = paired l m ms e in rw (forest-same l (m ∷ ms), p .0, p .1)
+
+pub no-chain-here : (l m : Line) (ms : List Line) → m .indent ≤ suc (l .indent) → (l .indent ≡ m .indent → ⊥)
+    → chained (forestAt (l .indent) (l ∷ m ∷ ms)) ≡ grown (l .op) (chained (forestAt (suc (l .indent)) (m ∷ ms))) (chained (forestAt (l .indent) (m ∷ ms)))
+unfolding chained
+no-chain-here l m ms h n =
+    elim (unpaired l m ms h n) [ inl e ↦ rw (forest-same l (m ∷ ms), e) | inr p ↦ rw (forest-same l (m ∷ ms), p .0, p .1) ]
+
+pub last-here : (l : Line) → chained (forestAt (l .indent) (l ∷ [])) ≡ grown (l .op) bare bare
+unfolding chained forestAt
+last-here l = rw (forest-same l [])
 
 -- ---- no pairs
 
@@ -52,7 +69,7 @@ unfolding chainsLastAfter
 last-after i [] s = tt
 last-after i (l ∷ ls) s =
     let q = next-stepped i l ls s in
-    rw (ne-eqb i (l .indent) (q .0)) (last-after (l .indent) ls (q .1))
+    pair-last i l ls (λ e. absurd (q .0 e)) (last-after (l .indent) ls (q .1))
 
 pub stepped-last : (ls : List Line) → T (stepped ls) → T (chainsLast ls)
 unfolding stepped chainsLast
