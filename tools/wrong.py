@@ -1,0 +1,111 @@
+"""The wrong programs that the prover must refuse, as crates/*/must-fail has them, and what it said of each.
+
+An edit has the form of `rt`: `file:`, and of that file pairs of `old:` and `new:`. A line `wrong: NAME` stands before the lines of each
+wrong program. Several may share an edit, and so a check: then each changes the body of one function, and no two of them the same. A function is proved
+from its own body and from what the others promise, so what fails in its proof fails by its own change, and would without the others.
+"""
+
+import re
+
+PARTS = ("src", "specs", "proofs")
+ERROR = re.compile(r"^(\S+):\d+:\d+: error: (.*(?:\n  .*)?)", re.MULTILINE)
+# What is said where a fact fails: two sides differ, something does not follow, or what the code tests is not in what is promised. Of a name that is missing, and of what waits for another
+# line that is refused, other things are said.
+FACT = re.compile(
+    r"`[^`]*`: (?:as printed, the two (?:types|sides)|computed as far as they go, the two|expected type|give a proof of that as the last argument|`\w+`: (?:the goal does not follow|no proof of|no occurrence of)|`[^`]*`\n  ≟ )"
+)
+# What is said of a function that has no proof of its own because it is found by a search, where the search finds none.
+NOT_FOUND = re.compile(r"^fn \S+: no proof: expected `[^`]*` in (\S+); `search` does not close ", re.MULTILINE)
+
+
+class Unclear(Exception):
+    """An edit that does not tell what it tries."""
+
+
+class Wrong:
+    """One wrong program: its name, and what it changes: a file, an old text and a new one, each time."""
+
+    def __init__(self, name):
+        self.name, self.changes = name, []
+
+
+def edits(crate):
+    return sorted(crate.glob("must-fail/*.edit"))
+
+
+def wrong_programs(edit):
+    """The wrong programs of an edit, in order."""
+    found, file, old = [], None, None
+    for line in edit.read_text(encoding="utf-8").splitlines():
+        if line.startswith("wrong: "):
+            found.append(Wrong(line[7:]))
+        elif line.startswith("file: "):
+            file = line[6:]
+        elif line.startswith("old: "):
+            old = line[5:]
+        elif line.startswith("new:"):
+            if not found:
+                raise Unclear(f"{edit.parent.parent.name}/{edit.stem}: a change stands before the first `wrong:`")
+            found[-1].changes.append((file, old, line[4:].removeprefix(" ")))
+    if not found or not all(wrong.changes for wrong in found):
+        raise Unclear(f"{edit.parent.parent.name}/{edit.stem}: a wrong program has no name or changes nothing")
+    return found
+
+
+def names(crate):
+    """The names of a crate's wrong programs, each as often as it is there."""
+    return [wrong.name for edit in edits(crate) for wrong in wrong_programs(edit)]
+
+
+def files(folder):
+    """The files that a check of a crate reads, by their names below it."""
+    return {str(path.relative_to(folder)): path.read_text(encoding="utf-8") for part in PARTS for path in sorted(folder.glob(f"{part}/**/*")) if path.is_file()}
+
+
+def body_at(text, place):
+    """The function in whose body a place of a source stands, with its type before it; nothing where the place stands in no body."""
+    kind, name, indent, within = [], None, "", False
+    for line in text[: text.rfind("\n", 0, place) + 1].splitlines():
+        if found := re.match(r"impl (\w+)", line):
+            kind = [found[1]]
+        elif found := re.match(r'( *)(?:pub(?:\(crate\))? )?(?:extern "C" )?fn (\w+)', line):
+            indent, name, within = found[1], found[2], line.endswith("{")
+        elif name and line == indent + "}":
+            name, within = None, False
+        elif line == "}":
+            kind = []
+        elif name and line.startswith((indent + "{", indent + ")")) and line.endswith("{"):
+            within = True
+    return [*kind, name] if within else None
+
+
+def module_of(file):
+    return [] if file in ("src/lib.rt", "src/main.rt") else file.removeprefix("src/").removesuffix(".rt").split("/")
+
+
+def proof_of(texts, file, function):
+    """The folder of a function's proof, that of a method being with its type, or of the cycle of calls that it is in."""
+    for kind in function[:-1]:
+        file = next(name for name, text in texts.items() if name.startswith("src/") and re.search(rf"^(?:pub )?(?:struct|enum) {kind}\b", text, re.MULTILINE))
+    above = "/".join(["proofs", *module_of(file), *function[:-1]])
+    cycles = {found[1] for name in texts if (found := re.match(re.escape(above) + r"/(\+[\w+]+)/", name))}
+    return f"{above}/{next((cycle for cycle in cycles if function[-1] in cycle.split('+')), function[-1])}/"
+
+
+def applied(texts, wrong):
+    """Puts a wrong program into a crate's files, and says in whose proof it must fail; nothing where it changes more than one function's body."""
+    places = set()
+    for file, old, new in wrong.changes:
+        if not old or texts.get(file, "").count(old) != 1:
+            raise Unclear(f"{wrong.name}: an old text is not in {file} once")
+        at = texts[file].index(old)
+        function = body_at(texts[file], at) if file.startswith("src/") else None
+        places.add(proof_of(texts, file, function) if function else None)
+        texts[file] = texts[file][:at] + new + texts[file][at + len(old) :]
+    return places.pop() if len(places) == 1 else None
+
+
+def failed_facts(said, folder):
+    """The files below a crate in which a fact failed, from what the prover said of the copy in a folder."""
+    found = [error[1] for error in ERROR.finditer(said) if FACT.match(error[2])] + NOT_FOUND.findall(said)
+    return {path.split(folder)[-1] for path in found}
