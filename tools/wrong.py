@@ -62,28 +62,28 @@ def files(folder):
     return {str(path.relative_to(folder)): path.read_text(encoding="utf-8") for part in PARTS for path in sorted(folder.glob(f"{part}/**/*")) if path.is_file()}
 
 
-def body_at(text, place):
-    """The function in whose body a place of a source stands, with its type before it; nothing where the place stands in no body."""
-    kind, name, indent, within = [], None, "", False
-    for line in text[: text.rfind("\n", 0, place) + 1].splitlines():
+def bodies(text):
+    """The functions of a source, each with its type before it, and from which line to which its body stands."""
+    kind, name, indent, start = [], None, "", None
+    for number, line in enumerate(text.splitlines()):
         if found := re.match(r"impl (\w+)", line):
             kind = [found[1]]
         elif found := re.match(r'( *)(?:pub(?:\(crate\))? )?(?:extern "C" )?fn (\w+)', line):
-            indent, name, within = found[1], found[2], line.endswith("{")
+            indent, name, start = found[1], found[2], number + 1 if line.endswith("{") else None
         elif name and line == indent + "}":
-            name, within = None, False
+            yield (*kind, name), start, number
+            name = None
         elif line == "}":
             kind = []
         elif name and line.startswith((indent + "{", indent + ")")) and line.endswith("{"):
-            within = True
-    return [*kind, name] if within else None
+            start = number + 1
 
 
 def module_of(file):
     return [] if file in ("src/lib.rt", "src/main.rt") else file.removeprefix("src/").removesuffix(".rt").split("/")
 
 
-def proof_of(texts, file, function):
+def proof_of(texts, file, *function):
     """The folder of a function's proof, that of a method being with its type, or of the cycle of calls that it is in."""
     for kind in function[:-1]:
         file = next(name for name, text in texts.items() if name.startswith("src/") and re.search(rf"^(?:pub )?(?:struct|enum) {kind}\b", text, re.MULTILINE))
@@ -93,16 +93,17 @@ def proof_of(texts, file, function):
 
 
 def applied(texts, wrong):
-    """Puts a wrong program into a crate's files, and says in whose proof it must fail; nothing where it changes more than one function's body."""
-    places = set()
+    """Puts a wrong program into a crate's files, and says which function it changes, and in which file; nothing where it changes more than one function's body."""
+    found = set()
     for file, old, new in wrong.changes:
         if not old or texts.get(file, "").count(old) != 1:
             raise Unclear(f"{wrong.name}: an old text is not in {file} once")
         at = texts[file].index(old)
-        function = body_at(texts[file], at) if file.startswith("src/") else None
-        places.add(proof_of(texts, file, function) if function else None)
+        line = texts[file].count("\n", 0, at)
+        within = [function for function, start, end in bodies(texts[file]) if start <= line < end] if file.startswith("src/") else []
+        found.add((file, *within[0]) if within else None)
         texts[file] = texts[file][:at] + new + texts[file][at + len(old) :]
-    return places.pop() if len(places) == 1 else None
+    return found.pop() if len(found) == 1 else None
 
 
 def failed_facts(said, folder):

@@ -193,8 +193,8 @@ impl Operator {
             let t = times[j];
             let level = self.level(d, t);
             match level {
-                Level::Held(x) => {
-                    levels[j] = x;
+                Level::Held(held) => {
+                    levels[j] = held;
                 }
                 Level::Past => {
                     return j;
