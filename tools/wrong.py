@@ -1,8 +1,7 @@
 """The wrong programs that the prover must refuse, as crates/*/must-fail has them, and what it said of each.
 
 An edit has the form of `rt`: `file:`, and of that file pairs of `old:` and `new:`. A line `wrong: NAME` stands before the lines of each
-wrong program. Several may share an edit, and so a check: then each changes the body of one function, and no two of them the same. A function is proved
-from its own body and from what the others promise, so what fails in its proof fails by its own change, and would without the others.
+wrong program. Several may share an edit, and so a check: then each changes the body of one function, and no two of them the same (docs/GATE.md says why).
 """
 
 import re
@@ -63,15 +62,15 @@ def files(folder):
 
 
 def bodies(text):
-    """The functions of a source, each with its type before it, and from which line to which its body stands."""
-    kind, name, indent, start = [], None, "", None
+    """The functions of a source, each with its type before it; whether it is public, and from which line to which its body stands."""
+    kind, name, indent, public, start = [], None, "", False, None
     for number, line in enumerate(text.splitlines()):
         if found := re.match(r"impl (\w+)", line):
             kind = [found[1]]
-        elif found := re.match(r'( *)(?:pub(?:\(crate\))? )?(?:extern "C" )?fn (\w+)', line):
-            indent, name, start = found[1], found[2], number + 1 if line.endswith("{") else None
+        elif found := re.match(r'( *)(pub )?(?:pub\(crate\) )?(?:extern "C" )?fn (\w+)', line):
+            indent, public, name, start = found[1], bool(found[2]), found[3], number + 1 if line.endswith("{") else None
         elif name and line == indent + "}":
-            yield (*kind, name), start, number
+            yield (*kind, name), public, start, number
             name = None
         elif line == "}":
             kind = []
@@ -100,7 +99,7 @@ def applied(texts, wrong):
             raise Unclear(f"{wrong.name}: an old text is not in {file} once")
         at = texts[file].index(old)
         line = texts[file].count("\n", 0, at)
-        within = [function for function, start, end in bodies(texts[file]) if start <= line < end] if file.startswith("src/") else []
+        within = [function for function, _, start, end in bodies(texts[file]) if start <= line < end] if file.startswith("src/") else []
         found.add((file, *within[0]) if within else None)
         texts[file] = texts[file][:at] + new + texts[file][at + len(old) :]
     return found.pop() if len(found) == 1 else None
