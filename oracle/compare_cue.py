@@ -1,4 +1,5 @@
-"""Compares the program `cue` with the model and the Rust, sheet by sheet: hand-made, generated ones and some aimed at each refusal.
+"""Compares the program `cue` with the model and the Rust, sheet by sheet: hand-made, generated ones, some aimed at each refusal, one with each byte put in
+at three places, and one whose file is longer than 100 MB.
 
 The answer to every sheet is `refused N L` as the model says, or a WAV file. With the old RIFF size, as `cue old-size`, that is byte for byte the
 file of the Rust that has document 01's sine, power and order of parts; without a word it is other in the four bytes of the size alone. Each file is
@@ -32,7 +33,14 @@ REFUSALS = dict(zip(NUMBERS, (
     *(140, 94, 97, 118, 250, 80, 90, 140, 145),
     *(97, 95, 105, 58, 52, 70, 100, 90, 58),
 ), strict=True))
+# A sheet of two notes, in parts before and behind the places where a byte is put in; and what editors put before a text.
+PLACES = (b"", b"p t1000 l64 c", b" e\n", b"")
+MARKS = (b"\xef\xbb\xbf", b"\xfe\xff", b"\xff\xfe", b"\xff\xfe\0\0", b"\0\0\xfe\xff", b"\x1a", b"\r")
+# A file of over 100 MB that sounds to its end: five whole notes at tempo 1.
+LONG = b"p t1 l1 v1 cdefg\n"
 FLOORS = {
+    "with a byte put in": 775,
+    "bytes of long files": 211_000_000,
     "files": 2_400,
     "of the old size": 1_500,
     "samples": 325_000_000,
@@ -78,12 +86,33 @@ def hold_by(ways, sheets, case_of, asked=lambda *words: proved("cue", *words)):
     return sum(len(sheets[i :: len(ways)]) for i, (_, number) in enumerate(ways) if number == OLD)
 
 
+def with_bytes():
+    """A sheet with each of the 256 bytes at its front, in its middle and at its end, and with what editors put before a text."""
+    whole = b"".join(PLACES)
+    for b in range(256):
+        known = "refused 2 0" if b >= 128 else None
+        for i in range(1, len(PLACES)):
+            text = b"".join(PLACES[:i]) + bytes([b]) + b"".join(PLACES[i:])
+            yield judged.Judged(f"byte {b} at {len(b''.join(PLACES[:i]))}", text, known)
+    for mark in MARKS:
+        yield judged.Judged(f"{mark!r} before a sheet", mark + whole, "refused 2 0" if max(mark) >= 128 else None)
+
+
+def hold_long():
+    """Holds a file of over 100 MB, byte for byte, under either name of its size; how many bytes there were."""
+    sheet = judged.Judged("a long file", LONG)
+    for words, number in PLAINLY:
+        hold_each(" ".join(("cue", *words)), proved("cue", *words), [sheet], lambda sheet, number=number: file_case(sheet, number))
+    return len(PLAINLY) * (HEADER_BYTES + 2 * sheet.length)
+
+
 def is_short(sheet):
     return sheet.length <= LONGEST and sheet.cost <= DEAREST
 
 
 def compare(seed, count):
-    sheets = judged.hand_made() + judged.generated(seed, count) + judged.aimed(seed, 1 + count // AIMED)
+    put_in = list(with_bytes())
+    sheets = judged.hand_made() + judged.generated(seed, count) + judged.aimed(seed, 1 + count // AIMED) + put_in
     judged.hold_model(sheets)
     refused, files, longer = [], [], []
     for sheet in sheets:
@@ -97,6 +126,8 @@ def compare(seed, count):
     strictly = [sheet for sheet in strictly if is_short(sheet) or sheet.strict_verdict != ACCEPTED]
     hold_by(STRICTLY, strictly, strict_case)
     return Counter(sheet.verdict for sheet in refused) + Counter({
+        "with a byte put in": len(put_in),
+        "bytes of long files": hold_long(),
         "strictly": len(strictly),
         "strictly files": sum(sheet.strict_verdict == ACCEPTED for sheet in strictly),
         "strictly refused 32": sum(sheet.strict_verdict == WITH_TAIL for sheet in strictly),

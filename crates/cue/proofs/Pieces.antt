@@ -24,8 +24,10 @@ use Rattle.windows.proofs.Windows.{sample-bytes}
 use Rattle.engine.proofs.Files.{written-count}
 use Rattle.engine.proofs.Counted.{next-samples, next-header-there}
 use Rattle.engine.proofs.HandedOn.{file-passing}
-use Rattle.cue.specs.Handing.{Next, Moved, Handed, none, more, written}
-use Rattle.cue.specs.declared.output.Output.{Output}
+use Rattle.system.specs.declared.output.Output.{Output}
+use Rattle.system.specs.Moving as System
+use Rattle.cue.specs.Handing.{Takes, Next, Moved, Handed, none, more, written}
+use Rattle.cue.specs.declared.handing.Handing.{Handing}
 
 -- a place where a piece of a file of so many bytes begins: at its start, or where a sample does
 pub record Begins (whole at : ℕ) : Type 0 where
@@ -98,21 +100,30 @@ abbrev pub left : Bool → ℕ → ℕ
 left true n = suc n
 left false n = 0
 
-pub left-less : (whole n reached : ℕ) (out later : Output) → out .taking ≡ true → Moved out n later reached → 0 < n → out .at + n ≤ whole
-    → left (later .taking) (whole - later .at) < left (out .taking) (whole - out .at)
-left-less whole n reached out later t m l h = rw t (go (later .taking) refl)
+pub left-less : (whole n reached : ℕ) (out later : Handing) → out .out .taking ≡ true → Moved out n later reached → 0 < n → out .out .at + n ≤ whole
+    → left (later .out .taking) (whole - later .out .at) < left (out .out .taking) (whole - out .out .at)
+left-less whole n reached out later t m l h = rw t (go (later .out .taking) refl)
   where
-    go : (b : Bool) → later .taking ≡ b → left b (whole - later .at) < suc (whole - out .at)
+    go : (b : Bool) → later .out .taking ≡ b → left b (whole - later .out .at) < suc (whole - out .out .at)
     go true e = omega (arith, m .further e)
     go false e = omega arith
 
 -- ---- what is handed on
 
--- the place of an output that took a piece, or did not
-pub moved-begins : (whole n reached : ℕ) (out later : Output) → Moved out n later reached → Begins whole (out .at) → Begins whole (out .at + n) → Begins whole (later .at)
-moved-begins whole n reached out later m b d = go (later .taking) refl
+-- an output that takes bytes, and what becomes of it
+pub moved-on : (out : Handing) (n before after : ℕ) (r : Output) → Takes out before → System.Moved (out .out) n r before after → Moved out n (record { out = r }) after
+moved-on out n before after r t m =
+    record { further = λ e. m .further e .0; stays = λ e. m .stays e .0; last = go (r .taking) refl }
   where
-    go : (t : Bool) → later .taking ≡ t → Begins whole (later .at)
+    go : (b : Bool) → r .taking ≡ b → after ≡ r .at
+    go true e = m .further e .1
+    go false e = m .stays e .1 ∙ t .last ∙ sym (m .stays e .0)
+
+-- the place of an output that took a piece, or did not
+pub moved-begins : (whole n reached : ℕ) (out later : Handing) → Moved out n later reached → Begins whole (out .out .at) → Begins whole (out .out .at + n) → Begins whole (later .out .at)
+moved-begins whole n reached out later m b d = go (later .out .taking) refl
+  where
+    go : (t : Bool) → later .out .taking ≡ t → Begins whole (later .out .at)
     go true e = subst (Begins whole) (sym (m .further e)) d
     go false e = subst (Begins whole) (sym (m .stays e)) b
 

@@ -3,9 +3,11 @@
 ghost use mathlib.Core.Path.{_≡_};
 ghost use Rattle.cue.specs.Words.{askedByOne, areBoth, askedByTwo, askedBy};
 use form::size::Size;
-use libc::STDERR_FILENO;
 use strict::mode::Mode;
 use text::characters::same_text;
+
+// How the program is used.
+pub const USE: [u8; 48] = *b"use: cue [strict] [old-size] < sheet > file.wav\n";
 
 // What the program is asked: to read in a mode and write the RIFF size of a name, or something that it does not understand.
 pub enum Asked {
@@ -63,12 +65,4 @@ pub fn asked_by(count: usize, first: &[u8], second: &[u8]) -> Asked
         return asked_by_two(first, second);
     }
     Asked::Unknown
-}
-
-// Says on standard error how the program is used.
-pub fn tell_use() {
-    io::write_all(
-        STDERR_FILENO,
-        b"use: cue [strict] [old-size] < sheet > file.wav\n",
-    );
 }

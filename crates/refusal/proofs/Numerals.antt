@@ -1,67 +1,171 @@
--- A numeral has the fewest digits that spell its number, which are those that `io` writes. Assumes nothing.
-use mathlib.Core.Path.{_≡_, refl, ap, ap₂, sym, subst, _∙_}
+-- A numeral digit by digit: one digit below ten, else the numeral of the tenth part and then the last digit. It is short, it begins with
+-- no zero, and the reader of digit runs reads it back as its number. Assumes nothing.
+use mathlib.Core.Path.{_≡_, refl, ap, sym, subst, _∙_}
 use mathlib.Core.Bool.{Bool, true, false}
 use mathlib.Core.List.{List, [], _∷_, _++_, append-assoc}
 use Prim.Native.Nat.{ℕ, zero, suc, _+_, _-_, _*_, _/_, _%_, _^_, _≤_, _<_}
-use native.Mathlib.Nat.{pow-suc, one-le-pow, pow-le-pow-right}
+use native.Mathlib.Nat.{lt-trans, pow-suc}
 use native.Mathlib.Omega.{arith}
-use lib.Dec.{leb, lit<}
-use borrow.Author.Tests.{lt-ltb, le-ltb, leb-true, leb-false}
+use lib.Dec.{leb, ltb, lit<}
+use lib.ListN.{length, drop, getD, length-append}
+use borrow.Author.Tests.{lt-ltb, le-ltb, ltb-true, ltb-false, le-leb}
 use Rattle.text.specs.Quoted.{bytes}
-use Rattle.io.specs.Digits.{glyph, digits, Fewest}
-use Rattle.refusal.specs.Line.{digitsIn, numeral, refusedLine}
+use Rattle.text.specs.Fronts.{front}
+use Rattle.text.proofs.Fronts.{cons-true, cons-false}
+use Rattle.number.specs.declared.digits.Int.the-variants.{Number}
+use Rattle.number.specs.Digits.{isDigit, valueFrom, intOf, intAt}
+use Rattle.number.proofs.Runs.{value-append}
+use Rattle.refusal.specs.Line.{lastDigit, digitsIn, numeral, refusedLine}
 
-glyph-is : (d : ℕ) → d < 10 → 48 + d ≡ glyph d
-glyph-is d h = rw (lt-ltb d 10 h)
+-- ---- digit by digit
 
--- ---- numbers beside a power of ten
+-- below ten, or not
+small : (n : ℕ) {P : Type 0} → (n < 10 → P) → (10 ≤ n → P) → P
+small n {P} below from = go (ltb n 10) refl
+  where
+    go : (b : Bool) → ltb n 10 ≡ b → P
+    go true e = below (ltb-true n 10 e)
+    go false e = from (ltb-false n 10 e)
+
+one-digit : (k n : ℕ) → n < 10 → digitsIn (suc k) n ≡ lastDigit n ∷ []
+unfolding digitsIn
+one-digit k n h = rw (lt-ltb n 10 h, digitsIn)
+
+more-digits : (k n : ℕ) → 10 ≤ n → digitsIn (suc k) n ≡ digitsIn k (n / 10) ++ (lastDigit n ∷ [])
+unfolding digitsIn
+more-digits k n h = rw (le-ltb n 10 h, digitsIn)
+
+-- how many digits are allowed says nothing where they are enough
+enough : (j k n : ℕ) → n < j → n < k → digitsIn j n ≡ digitsIn k n
+enough zero k n h g = absurd (omega arith)
+enough (suc j) zero n h g = absurd (omega arith)
+enough (suc j) (suc k) n h g =
+    small n (λ l. one-digit j n l ∙ sym (one-digit k n l))
+    (λ l. more-digits j n l
+    ∙ ap (λ (ds : List ℕ). ds ++ (lastDigit n ∷ [])) (enough j k (n / 10) (omega arith) (omega arith))
+    ∙ sym (more-digits k n l))
+
+pub numeral-one : (n : ℕ) → n < 10 → numeral n ≡ lastDigit n ∷ []
+unfolding numeral
+numeral-one n h = one-digit n n h
+
+pub numeral-more : (n : ℕ) → 10 ≤ n → numeral n ≡ numeral (n / 10) ++ (lastDigit n ∷ [])
+unfolding numeral
+numeral-more n h =
+    more-digits n n h
+    ∙ ap (λ (ds : List ℕ). ds ++ (lastDigit n ∷ [])) (enough n (suc (n / 10)) (n / 10) (omega arith) (omega arith))
+
+-- ---- how many digits
+
+pub length-one : (n : ℕ) → n < 10 → length (numeral n) ≡ 1
+length-one n h = ap length (numeral-one n h)
+
+pub length-more : (n : ℕ) → 10 ≤ n → length (numeral n) ≡ length (numeral (n / 10)) + 1
+length-more n h = ap length (numeral-more n h) ∙ length-append (numeral (n / 10)) (lastDigit n ∷ [])
 
 tenth-below : (n p q : ℕ) → q ≡ p * 10 → n < q → n / 10 < p
 tenth-below n p q e h = omega arith
 
-tenth-from : (n p q : ℕ) → q ≡ p * 10 → q ≤ n → p ≤ n / 10
-tenth-from n p q e h = omega arith
+many : (k n : ℕ) → ((j : ℕ) → n / 10 < 10 ^ suc j → length (numeral (n / 10)) ≤ suc j) → n < 10 ^ suc k → 10 ≤ n → length (numeral n) ≤ suc k
+many zero n below h l = absurd (omega (arith, pow-suc 10 0))
+many (suc k) n below h l = omega (arith, length-more n l, below k (tenth-below n (10 ^ suc k) (10 ^ suc (suc k)) (pow-suc 10 (suc k)) h))
 
-ten-from : (n p q : ℕ) → q ≡ p * 10 → q ≤ n → 0 < p → 10 ≤ n
-ten-from n p q e h k = omega arith
+few-below : (most k n : ℕ) → n < most → n < 10 ^ suc k → length (numeral n) ≤ suc k
+few-below zero k n m h = absurd (omega arith)
+few-below (suc most) k n m h =
+    small n (λ l. omega (arith, length-one n l)) (λ l. many k n (λ j. few-below most j (n / 10) (omega arith)) h l)
 
--- ---- digits
-
-pub digits-in : (most n k : ℕ) → n < most → Fewest 10 1 n k → digitsIn most n ≡ digits 10 k n
-unfolding digitsIn
-digits-in zero n k h w = absurd (omega arith)
-digits-in (suc most) n zero h w = absurd (omega (arith, w .0))
-digits-in (suc most) n (suc zero) h w =
-    let l : n < 10 = omega (arith, w .1) in
-    rw (lt-ltb n 10 l, digitsIn) (ap (λ (d : ℕ). d ∷ []) (glyph-is n l ∙ ap glyph (let z : n ≡ n % 10 = omega arith in z)))
-digits-in (suc most) n (suc (suc k)) h w =
-    let low : 10 ^ suc k ≤ n = subst (λ (j : ℕ). 10 ^ j ≤ n) (let z : suc (suc k) - 1 ≡ suc k = omega arith in z) (w .2 (omega arith)) in
-    let ten : 10 ≤ n = ten-from n (10 ^ k) (10 ^ suc k) (pow-suc 10 k) low (one-le-pow k 10 (omega arith)) in
-    let rest : Fewest 10 1 (n / 10) (suc k) = (
-      omega arith,
-      tenth-below n (10 ^ suc k) (10 ^ suc (suc k)) (pow-suc 10 (suc k)) (w .1),
-      λ l. subst (λ (j : ℕ). 10 ^ j ≤ n / 10) (let z : k ≡ suc k - 1 = omega arith in z) (tenth-from n (10 ^ k) (10 ^ suc k) (pow-suc 10 k) low),
-    ) in
-    rw (le-ltb n 10 ten, digitsIn) (ap₂ (λ (ds : List ℕ) (d : ℕ). ds ++ (d ∷ [])) (digits-in most (n / 10) (suc k) (omega arith) rest) (glyph-is (n % 10) (omega arith)))
-
--- the fewest digits that spell a number are its numeral
-pub numeral-is : (n k : ℕ) → Fewest 10 1 n k → digits 10 k n ≡ numeral n
-unfolding numeral
-numeral-is n k w = sym (digits-in (suc n) n k (omega arith) w)
-
-past : (a b c n : ℕ) → c < a → a ≤ b → b ≤ n → n < c → ⊥
-past a b c n u v x y = omega arith
+-- a number below a power of ten has no more digits
+pub few : (k n : ℕ) → n < 10 ^ suc k → length (numeral n) ≤ suc k
+few k n h = few-below (suc n) k n (omega arith) h
 
 -- no number of 64 bits has more than 20 digits
-pub few : (n k : ℕ) → n < 2 ^ 64 → Fewest 10 1 n k → k ≤ 20
-few n k h w = go (leb k 20) refl
+pub few-of-64 : (n : ℕ) → n < 2 ^ 64 → length (numeral n) ≤ 20
+few-of-64 n h = few 19 n (lt-trans h (lit< tt))
+
+-- ---- read back
+
+last-is-digit : (n : ℕ) → isDigit (lastDigit n) ≡ true
+unfolding isDigit lastDigit
+last-is-digit n = rw (le-leb 48 (48 + n % 10) (omega arith), le-leb (48 + n % 10) 57 (omega arith))
+
+front-cons : (ds : List ℕ) (b d : ℕ) → (front isDigit ds ≡ ds → front isDigit (ds ++ (d ∷ [])) ≡ ds ++ (d ∷ [])) → front isDigit (b ∷ ds) ≡ b ∷ ds
+    → front isDigit (b ∷ (ds ++ (d ∷ []))) ≡ b ∷ (ds ++ (d ∷ []))
+front-cons ds b d rest h = go (isDigit b) refl
   where
-    go : (b : Bool) → leb k 20 ≡ b → k ≤ 20
-    go true t = leb-true k 20 t
-    go false t =
-        let l : 20 < k = leb-false k 20 t in
-        let high : 10 ^ 20 ≤ 10 ^ (k - 1) = let z : 20 ≤ k - 1 = omega arith in pow-le-pow-right (lit< tt) z in
-        absurd (past (10 ^ 20) (10 ^ (k - 1)) (2 ^ 64) n (lit< tt) high (w .2 (omega arith)) h)
+    go : (x : Bool) → isDigit b ≡ x → front isDigit (b ∷ (ds ++ (d ∷ []))) ≡ b ∷ (ds ++ (d ∷ []))
+    go true t =
+        cons-true isDigit b (ds ++ (d ∷ [])) t
+        ∙ ap (λ (l : List ℕ). b ∷ l) (rest (ap (drop 1) (sym (cons-true isDigit b ds t) ∙ h)))
+    go false t = absurd (let z : 0 ≡ suc (length ds) = ap length (sym (cons-false isDigit b ds t) ∙ h) in omega arith)
+
+-- one digit more behind digits
+front-longer : (ds : List ℕ) (d : ℕ) → isDigit d ≡ true → front isDigit ds ≡ ds → front isDigit (ds ++ (d ∷ [])) ≡ ds ++ (d ∷ [])
+unfolding front
+front-longer [] d e h = cons-true isDigit d [] e
+front-longer (b ∷ ds) d e h = front-cons ds b d (front-longer ds d e) h
+
+-- a numeral is digits, which make its number
+record Back (n : ℕ) : Type 0 where
+  digits : front isDigit (numeral n) ≡ numeral n
+  value : valueFrom 0 (numeral n) ≡ n
+
+back-one : (n : ℕ) → n < 10 → Back n
+unfolding valueFrom lastDigit front
+back-one n h =
+    record {
+      digits = subst (λ (ds : List ℕ). front isDigit ds ≡ ds) (sym (numeral-one n h)) (cons-true isDigit (lastDigit n) [] (last-is-digit n));
+      value = ap (valueFrom 0) (numeral-one n h) ∙ (let z : 0 * 10 + (48 + n % 10 - 48) ≡ n = omega arith in z);
+    }
+
+back-more : (n : ℕ) → 10 ≤ n → Back (n / 10) → Back n
+unfolding valueFrom lastDigit
+back-more n h b =
+    record {
+      digits = subst (λ (ds : List ℕ). front isDigit ds ≡ ds) (sym (numeral-more n h)) (front-longer (numeral (n / 10)) (lastDigit n) (last-is-digit n) (b .digits));
+      value =
+          ap (valueFrom 0) (numeral-more n h)
+          ∙ value-append 0 (numeral (n / 10)) (lastDigit n ∷ [])
+          ∙ ap (λ (v : ℕ). valueFrom v (lastDigit n ∷ [])) (b .value)
+          ∙ (let z : n / 10 * 10 + (48 + n % 10 - 48) ≡ n = omega arith in z);
+    }
+
+back : (most n : ℕ) → n < most → Back n
+back zero n h = absurd (omega arith)
+back (suc most) n h = small n (λ l. back-one n l) (λ l. back-more n l (back most (n / 10) (omega arith)))
+
+run-read : (limit n : ℕ) (ds : List ℕ) → 0 < length ds → valueFrom 0 ds ≡ n → n ≤ limit → intOf limit 0 ds ≡ Number n (length ds)
+unfolding intOf
+run-read limit n [] l e h = absurd (omega arith)
+run-read limit n (d ∷ ds) l e h = rw (le-leb (valueFrom 0 (d ∷ ds)) limit (omega (arith, e)), intOf)
+    (ap (λ (v : ℕ). Number v (0 + suc (length ds))) e ∙ ap (Number n) (let z : 0 + suc (length ds) ≡ suc (length ds) = omega arith in z))
+
+some-digits : (n : ℕ) → 0 < length (numeral n)
+some-digits n = small n (λ l. omega (arith, length-one n l)) (λ l. omega (arith, length-more n l))
+
+-- the reader of digit runs reads a numeral back as its number, to its end
+pub numeral-read : (limit n : ℕ) → n ≤ limit → intAt limit (numeral n) 0 ≡ Number n (length (numeral n))
+unfolding intAt
+numeral-read limit n h =
+    let b = back (suc n) n (omega arith) in
+    ap (intOf limit 0) (b .digits) ∙ run-read limit n (numeral n) (some-digits n) (b .value) h
+
+first-of : (ds : List ℕ) (d : ℕ) → 0 < length ds → getD (ds ++ (d ∷ [])) 0 0 ≡ getD ds 0 0
+first-of [] d h = absurd (omega arith)
+first-of (b ∷ ds) d h = refl
+
+leads : (most n : ℕ) → n < most → 0 < n → 48 < getD (numeral n) 0 0
+unfolding lastDigit
+leads zero n m h = absurd (omega arith)
+leads (suc most) n m h =
+    small n
+    (λ l. subst (λ (ds : List ℕ). 48 < getD ds 0 0) (sym (numeral-one n l)) (let z : 48 < 48 + n % 10 = omega arith in z))
+    (λ l. subst (λ (d : ℕ). 48 < d) (sym (ap (λ (ds : List ℕ). getD ds 0 0) (numeral-more n l) ∙ first-of (numeral (n / 10)) (lastDigit n) (some-digits (n / 10))))
+    (leads most (n / 10) (omega arith) (omega arith)))
+
+-- it has the fewest digits: the first of them is no zero, but in 0 itself
+pub no-leading-zero : (n : ℕ) → 0 < n → 48 < getD (numeral n) 0 0
+no-leading-zero n h = leads (suc n) n (omega arith) h
 
 -- ---- the line of a refusal
 

@@ -6,7 +6,6 @@ use native.Mathlib.Omega.{arith}
 use lib.ListN.{length, take, drop, length-append, length-drop}
 use lib.Seq.{paste, take-at, take-length, drop-append-add, drop-drop}
 use borrow.Author.Tests.{le-leb, lt-leb}
-use Rattle.io.specs.Counts.{Counts}
 use Rattle.text.specs.Quoted.{bytes}
 use Rattle.refusal.specs.Line.{numeral, refusedLine, startingWith, Adds, lineCount, lineIn}
 use Rattle.refusal.proofs.Numerals.{line-is}
@@ -75,7 +74,7 @@ module _ (number line r : ℕ) (text later : List ℕ) (room : 50 ≤ length tex
   line-taken = ap (take r) starts ∙ take-at (refusedLine number line) (drop (length (refusedLine number line)) text) r (sym counted)
 
   -- and all of it is there, since a lent buffer keeps its length
-  pub line-within : length later ≡ length text → Counts r later
+  pub line-within : length later ≡ length text → (r ≤ length later) × (r ≡ length (take r later))
   line-within k =
       let whole = ap length starts ∙ length-append (refusedLine number line) (drop (length (refusedLine number line)) text) in
       let rest = length-drop (length (refusedLine number line)) text in

@@ -3,14 +3,20 @@ use mathlib.Core.Path.{_≡_}
 use mathlib.Core.Bool.{true, false}
 use mathlib.Core.List.{List, [], _∷_, _++_}
 use Prim.Native.Nat.{ℕ, zero, suc, _+_, _/_, _%_}
+use Prim.Native.Char.{code}
 use lib.Dec.{leb, ltb}
 use lib.ListN.{length, drop}
 use Rattle.text.specs.Quoted.{bytes}
 
+-- the last decimal digit of a number
+unfoldable pub lastDigit : ℕ → ℕ
+lastDigit n = code "0" + n % 10
+
 -- a number in at most k decimal digits: below ten one digit, else those of its tenth part and then the last
 unfoldable pub digitsIn : ℕ → ℕ → List ℕ
+unfolding lastDigit
 digitsIn zero n = []
-digitsIn (suc k) n = elim (ltb n 10) [ true ↦ (48 + n) ∷ [] | false ↦ digitsIn k (n / 10) ++ ((48 + n % 10) ∷ []) ]
+digitsIn (suc k) n = elim (ltb n 10) [ true ↦ lastDigit n ∷ [] | false ↦ digitsIn k (n / 10) ++ (lastDigit n ∷ []) ]
 
 -- a number in decimal digits; n has at most n + 1 of them
 unfoldable pub numeral : ℕ → List ℕ

@@ -3,7 +3,14 @@
 ghost use mathlib.Core.Path.{_≡_};
 ghost use Prim.Native.Nat.{_+_, _≤_};
 ghost use lib.ListN.{length};
-ghost use Rattle.refusal.specs.Line.{numeral, Adds, lineCount, lineIn};
+ghost use Rattle.refusal.specs.Line.{lastDigit, numeral, Adds, lineCount, lineIn};
+
+// The last digit of a number.
+fn digit(n: u64) -> u8
+    ensures { λ r. ⌜ r ≡ lastDigit n ⌝ }
+{
+    b'0' + (n % 10) as u8
+}
 
 // Puts a word behind the first `at` bytes of a text, and says where it ends.
 fn add_word(text: &mut [u8], at: usize, word: &[u8]) -> usize
@@ -19,15 +26,18 @@ fn add_word(text: &mut [u8], at: usize, word: &[u8]) -> usize
     at + i
 }
 
-// The same with a number's digits, of which there are 20 at most.
+// The same with a number's digits: below ten it is one digit, else those of its tenth part stand before the last.
 fn add_number(text: &mut [u8], at: usize, n: u64) -> usize
-    requires { ⌜ at + 20 ≤ length (now text) ⌝ }
-    ensures end { λ r. ⌜ (r ≡ at + length (numeral n)) × (r ≤ at + 20) ⌝ }
+    requires { ⌜ at + length (numeral n) ≤ length (now text) ⌝ }
+    ensures end { λ r. ⌜ r ≡ at + length (numeral n) ⌝ }
     ensures bytes { λ _. ⌜ Adds (now (text .entry)) at (numeral n) (now (text .exit)) ⌝ }
 {
-    let mut digits = [0u8; 20];
-    let k = io::decimal(n, &mut digits);
-    add_word(text, at, &digits[..k])
+    let last = [digit(n)];
+    if n < 10 {
+        return add_word(text, at, &last);
+    }
+    let behind = add_number(text, at, n / 10);
+    add_word(text, behind, &last)
 }
 
 // Puts the line of a refusal at a text's start, and says how long it is. Where the text has under 50 bytes

@@ -10,16 +10,16 @@ use Rattle.engine.specs.Stream.{fileOf, nextOf, nextIn}
 use Rattle.engine.proofs.HandedOn.{next-length}
 use Rattle.cue.specs.Answer.{answerOf}
 use Rattle.cue.specs.Handing.{Next}
-use Rattle.cue.specs.declared.output.Output.{Output}
+use Rattle.cue.specs.declared.handing.Handing.{Handing}
 use Rattle.cue.proofs.Pieces.{Begins, Piece, begins, file-most, piece-next, piece-bytes, left, left-less, moved-begins, file-next}
-use Rattle.cue.proofs.hand_file.Statement.{statement}
-use Rattle.cue.proofs.hand_file.Tie as tie
+use Rattle.cue.proofs.answer.hand_file.Statement.{statement}
+use Rattle.cue.proofs.answer.hand_file.Tie as tie
 
 abbrev Inv-loop : tie.InvT-loop
-Inv-loop mode size source sheet reached₀ buffer₀ later₀ reached buffer later = (length buffer ≡ 65536) × ((reached ≡ later .at) × Begins (length (fileOf size 44100 sheet)) (later .at))
+Inv-loop mode size source sheet reached₀ buffer₀ later₀ reached buffer later = (length buffer ≡ 65536) × ((reached ≡ later .out .at) × Begins (length (fileOf size 44100 sheet)) (later .out .at))
 
 abbrev μ-loop : tie.MeasureT-loop
-μ-loop mode size source sheet reached₀ buffer₀ later₀ reached buffer later = left (later .taking) (length (fileOf size 44100 sheet) - later .at)
+μ-loop mode size source sheet reached₀ buffer₀ later₀ reached buffer later = left (later .out .taking) (length (fileOf size 44100 sheet) - later .out .at)
 
 -- ---- a turn, once the piece is there
 
@@ -36,10 +36,10 @@ module _ (c : tie.After-next Inv-loop μ-loop) where
   abbrev file : List ℕ
   file = fileOf (from .args .size) 44100 sheet
 
-  abbrev out : Output
+  abbrev out : Handing
   out = head .loop .later
 
-  count : c .next .result ≡ nextOf 44100 sheet (length (head .loop .buffer)) (out .at)
+  count : c .next .result ≡ nextOf 44100 sheet (length (head .loop .buffer)) (out .out .at)
   count = c .next .ensures .1 .0 ∙ ap (nextOf 44100 sheet (length (head .loop .buffer))) (c .before .place .ensures)
 
   sized : length (c .next .last .1 .0) ≡ 65536
@@ -48,31 +48,31 @@ module _ (c : tie.After-next Inv-loop μ-loop) where
       ∙ next-length (from .args .size) 44100 sheet (head .loop .buffer) (c .before .place .result)
       ∙ head .loop .inv .0
 
-  piece : Piece (length file) (out .at) (c .next .result)
+  piece : Piece (length file) (out .out .at) (c .next .result)
   piece =
-      subst (Piece (length file) (out .at)) (sym count)
-      (piece-next (from .args .size) sheet (from .pre .1 .1) (head .loop .buffer) (head .loop .inv .0) (out .at)
+      subst (Piece (length file) (out .out .at)) (sym count)
+      (piece-next (from .args .size) sheet (from .pre .1 .1) (head .loop .buffer) (head .loop .inv .0) (out .out .at)
       (head .loop .inv .1 .1))
 
-  taking : out .taking ≡ true
+  taking : out .out .taking ≡ true
   taking = sym (c .before .before .before .before .is-taking .ensures) ∙ c .before .before .before .if1 .taken
 
-  next-piece : Next (answerOf (from .args .mode) (from .args .size) (from .args .source .now)) (out .at) (take (c .next .result) (c .next .last .1 .0))
+  next-piece : Next (answerOf (from .args .mode) (from .args .size) (from .args .source .now)) (out .out .at) (take (c .next .result) (c .next .last .1 .0))
   next-piece =
-      file-next (answerOf (from .args .mode) (from .args .size) (from .args .source .now)) file _ (out .at) (c .next .result) (from .pre .1 .0)
-      (piece-bytes (from .args .size) sheet (from .pre .1 .1) (head .loop .buffer) (head .loop .inv .0) (out .at)
+      file-next (answerOf (from .args .mode) (from .args .size) (from .args .source .now)) file _ (out .out .at) (c .next .result) (from .pre .1 .0)
+      (piece-bytes (from .args .size) sheet (from .pre .1 .1) (head .loop .buffer) (head .loop .inv .0) (out .out .at)
       (c .next .result) (c .next .last .1 .0) count
       (c .next .ensures .1 .1 ∙ ap (nextIn (from .args .size) 44100 sheet (head .loop .buffer)) (c .before .place .ensures))
       (piece .next .inside))
       (c .next .ensures .0 .1) (piece .next .inside) (file-most (from .args .size) sheet (from .pre .1 .1))
 
-large-buffer-requires : tie.Need-large-buffer-requires Inv-loop μ-loop
-large-buffer-requires c κs = tt
+part-buffer-requires : tie.Need-part-buffer-requires Inv-loop μ-loop
+part-buffer-requires c κs = tt
 
 loop-holds : tie.Need-loop-holds Inv-loop μ-loop
 loop-holds c =
     let s = c .before .before in
-    (sym (c .large-buffer .ensures), (s .pre .0 .0 .last, subst (Begins (length (fileOf (s .args .size) 44100 (s .args .sheet)))) (sym (s .pre .0 .1)) (begins _)))
+    (sym (c .part-buffer .ensures), (s .pre .0 .0 .last, subst (Begins (length (fileOf (s .args .size) 44100 (s .args .sheet)))) (sym (s .pre .0 .1)) (begins _)))
 
 is-taking-requires : tie.Need-is-taking-requires Inv-loop μ-loop
 is-taking-requires c κs = tt
@@ -115,7 +115,7 @@ loop-again c =
       (
         c .hand .ensures .last,
         moved-begins (length (file n)) _ _ (out n) (c .hand .result) (c .hand .ensures) (head n .loop .inv .1 .1)
-            (subst (λ (k : ℕ). Begins (length (file n)) (out n .at + k)) (n .next .ensures .0 .1) (piece n .next)),
+            (subst (λ (k : ℕ). Begins (length (file n)) (out n .out .at + k)) (n .next .ensures .0 .1) (piece n .next)),
       ),
     )
 
@@ -128,7 +128,7 @@ hand-file-spec =
     (tie.spec
     Inv-loop
     μ-loop
-    large-buffer-requires
+    part-buffer-requires
     loop-holds
     is-taking-requires
     slice-aggregate-next

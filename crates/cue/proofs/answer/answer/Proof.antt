@@ -1,8 +1,8 @@
 -- `answer` hands on what the reading asks for. Assumes nothing.
 use Rattle.cue.proofs.Readings.{read-passes, answer-line, answer-file}
 use borrow.Author.Needs.{needs}
-use Rattle.cue.proofs.answer.Statement.{statement}
-use Rattle.cue.proofs.answer.Tie as tie
+use Rattle.cue.proofs.answer.answer.Statement.{statement}
+use Rattle.cue.proofs.answer.answer.Tie as tie
 
 read-requires : tie.Need-read-requires
 read-requires c κs = search needs

@@ -3,16 +3,16 @@ use mathlib.Core.Path.{_≡_, sym, ap, _∙_}
 use Prim.Native.Nat.{_≤_}
 use native.Mathlib.Omega.{arith}
 use lib.ListN.{length, take}
-use Rattle.io.specs.Counts.{Counts}
+use Rattle.system.specs.Counts.{Counts}
 use Rattle.refusal.proofs.Starts.{line-taken, line-within}
 use Rattle.cue.specs.Answer.{answerOf}
 use Rattle.cue.proofs.Pieces.{whole-next}
 use borrow.Author.Needs.{needs}
-use Rattle.cue.proofs.hand_line.Statement.{statement}
-use Rattle.cue.proofs.hand_line.Tie as tie
+use Rattle.cue.proofs.answer.hand_line.Statement.{statement}
+use Rattle.cue.proofs.answer.hand_line.Tie as tie
 
-buffer-requires : tie.Need-buffer-requires
-buffer-requires c κs = search needs
+line-buffer-requires : tie.Need-line-buffer-requires
+line-buffer-requires c κs = search needs
 
 slice-aggregate-refused-line : tie.Need-slice-aggregate-refused-line
 slice-aggregate-refused-line c = search needs
@@ -21,8 +21,8 @@ refused-line-requires : tie.Need-refused-line-requires
 refused-line-requires c κs = search needs
 
 -- a buffer has room for a line
-roomy : (a : tie.After-refused-line) → 50 ≤ length (a .before .before .buffer .result)
-roomy a = omega (arith, a .before .before .buffer .ensures)
+roomy : (a : tie.After-refused-line) → 50 ≤ length (a .before .before .line-buffer .result)
+roomy a = omega (arith, a .before .before .line-buffer .ensures)
 
 -- so the line is all there, and it is the answer
 within : (a : tie.After-refused-line) → Counts (a .refused-line .result) (a .refused-line .last .1 .1 .0)
@@ -52,7 +52,7 @@ pub hand-line-spec : {M : Type 1} → statement M
 hand-line-spec =
     tie.close
     (tie.spec
-    buffer-requires
+    line-buffer-requires
     slice-aggregate-refused-line
     refused-line-requires
     array-share-prefix-text

@@ -7,8 +7,8 @@ use borrow.Author.Needs.{needs}
 use Rattle.engine.specs.Stream.{nextOf}
 use Rattle.engine.proofs.Counted.{next-room}
 use Rattle.engine.proofs.HandedOn.{next-length}
-use Rattle.cue.proofs.next.Statement.{statement}
-use Rattle.cue.proofs.next.Tie as tie
+use Rattle.cue.proofs.answer.next.Statement.{statement}
+use Rattle.cue.proofs.answer.next.Tie as tie
 
 next-bytes-requires : tie.Need-next-bytes-requires
 next-bytes-requires c κs = search needs

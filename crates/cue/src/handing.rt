@@ -1,0 +1,61 @@
+// The answer on its way to standard output. No other module can make or change a `Handing`, so that one at a place is had only by handing on all
+// that comes before it.
+
+ghost use mathlib.Core.Path.{_≡_};
+ghost use mathlib.Core.Bool.{true};
+ghost use lib.ListN.{length};
+ghost use Rattle.cue.specs.Answer.{answerOf};
+ghost use Rattle.cue.specs.Handing.{Takes, Next, Moved};
+use form::size::Size;
+use strict::mode::Mode;
+use system::output::Output;
+
+pub struct Handing {
+    out: Output,
+}
+
+impl Handing {
+    // Nothing is handed on yet.
+    pub fn start() -> Handing
+        ensures { λ r. ⌜ (r .out .at ≡ 0) × (r .out .taking ≡ true) ⌝ }
+    {
+        Handing {
+            out: Output::start(),
+        }
+    }
+
+    // How many bytes of the answer have been handed on.
+    pub fn place(self) -> usize
+        ensures { λ r. ⌜ r ≡ self .out .at ⌝ }
+    {
+        let out = self.out;
+        out.place()
+    }
+
+    // Whether all of them were taken.
+    pub fn is_taking(self) -> bool
+        ensures { λ r. ⌜ r ≡ self .out .taking ⌝ }
+    {
+        let out = self.out;
+        out.is_taking()
+    }
+
+    // Hands the next piece of the answer on; nothing else in the program does. A `Handing` can be copied, and `reached` holds how far the program has
+    // come, so that an older copy cannot hand its piece on again.
+    pub fn hand(
+        self,
+        mode: Mode,
+        size: Size,
+        source: &[u8],
+        part: &[u8],
+        reached: &mut usize,
+    ) -> Handing
+        requires taking { ⌜ Takes self (now reached) ⌝ }
+        requires next { ⌜ Next (answerOf mode size (now source)) (self .out .at) (now part) ⌝ }
+        ensures { λ r. ⌜ Moved self (length (now (part .entry))) r (now (reached .exit)) ⌝ }
+    {
+        let out = self.out;
+        let later = out.hand(part, reached);
+        Handing { out: later }
+    }
+}
