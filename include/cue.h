@@ -15,7 +15,8 @@
  *   line                 where the line of a refusal goes: counted from 1, or 0 where the refusal has none; 0 without a refusal.
  * and gives its answer for every text, every mode, every size, every length, every start and every place. *refusal and *line are written by every call, whatever
  * stood there. After a refusal no byte of the buffer is changed; else only the bytes that the call names are.
- * The answer depends on nothing but the arguments: the bytes of the text, the mode, the size, the lengths, start and place. Nothing is kept from one call to
+ * The answer depends on nothing but the arguments, where a caller keeps to what it owes: the bytes of the text, the mode, the size, the lengths, start and
+ * place. Nothing is kept from one call to
  * the next, nothing is allocated and no file is touched, so several threads may call at once, each with its own buffer, refusal and line.
  *
  * What a caller owes, since C cannot show it: source points to source_len bytes that may be read, buffer to buffer_len bytes that may be
@@ -23,7 +24,11 @@
  * nor the text, and no other thread writes the text or touches the rest during the call. refusal and line are never NULL. An empty text or buffer
  * (length 0) is not read or written through its pointer, and NULL there is tried by the tests; a slice of Rust, which the pointer and the length
  * become, is not to be NULL, so rather pass the address of any byte.
- * A call takes nearly 1,000,000 bytes of stack, whatever the text, and nothing of the heap; a thread that calls has CUE_STACK bytes left.
+ * The thread's floating-point state is the one in which every C program starts: rounding to nearest, all exceptions masked, and no small number flushed to
+ * zero (of MXCSR the rounding bits, the masks, FTZ and DAZ; fesetround(FE_TONEAREST), no feenableexcept). In another state the answer is another, or a
+ * call raises SIGFPE.
+ * A call takes some 830,000 bytes of stack for a text that is accepted and 1,000,000 for one that is refused, whatever its length, and nothing of the heap;
+ * a thread that calls has CUE_STACK bytes left.
  *
  * Refusals: 1 to 27 are the text's, in the order in which document 01 asks them, each with its line, and in strict mode 32 too, a number or key with
  * a tail in an operator line, `#tempo`, `#denom` or `#key`. A text that is accepted in strict mode is accepted in plain mode with the same sound, and one

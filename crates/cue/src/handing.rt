@@ -19,9 +19,8 @@ impl Handing {
     pub fn start() -> Handing
         ensures { λ r. ⌜ (r .out .at ≡ 0) × (r .out .taking ≡ true) ⌝ }
     {
-        Handing {
-            out: Output::start(),
-        }
+        let out = Output::start();
+        Handing { out }
     }
 
     // How many bytes of the answer have been handed on.

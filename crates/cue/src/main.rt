@@ -20,6 +20,12 @@ use system::output::tell;
 use system::words::word;
 use system::words::word_count;
 
+// Hands the answer to a source on, from its first byte.
+fn respond(mode: Mode, size: Size, source: &[u8]) {
+    let mut reached: usize = 0;
+    answer(mode, size, source, Handing::start(), &mut reached);
+}
+
 // Reads standard input to its end, or to one byte more than a source may have, and hands the answer on. Where it cannot be read to there, nothing is
 // handed on: half a sheet is no sheet.
 fn run(mode: Mode, size: Size) {
@@ -27,8 +33,7 @@ fn run(mode: Mode, size: Size) {
     let read = read_first(&mut bytes);
     match read {
         Input::Read(n) => {
-            let mut reached: usize = 0;
-            answer(mode, size, &bytes[..n], Handing::start(), &mut reached);
+            respond(mode, size, &bytes[..n]);
         }
         Input::Failed => {}
     }

@@ -21,14 +21,11 @@ enum-known-read c = search needs
 array-share-prefix-bytes : tie.Need-array-share-prefix-bytes
 array-share-prefix-bytes c = subst (λ (i : Input). Within i (c .before .before .before .before .read-first .last .0)) (c .before .read .given .1) (c .before .before .before .before .read-first .ensures) .0
 
-slice-aggregate-answer : tie.Need-slice-aggregate-answer
-slice-aggregate-answer c = subst (λ (i : Input). Within i (c .before .before .before .before .before .read-first .last .0)) (c .before .before .read .given .1) (c .before .before .before .before .before .read-first .ensures) .1
+slice-aggregate-respond : tie.Need-slice-aggregate-respond
+slice-aggregate-respond c = subst (λ (i : Input). Within i (c .before .before .before .before .before .read-first .last .0)) (c .before .before .read .given .1) (c .before .before .before .before .before .read-first .ensures) .1
 
-start-requires : tie.Need-start-requires
-start-requires c κs = search needs
-
-answer-requires : tie.Need-answer-requires
-answer-requires c κs = search needs
+respond-requires : tie.Need-respond-requires
+respond-requires c κs = search needs
 
 enum-told : tie.Need-enum-told
 enum-told c = search needs
@@ -48,9 +45,8 @@ run-spec =
     read-first-requires
     enum-known-read
     array-share-prefix-bytes
-    slice-aggregate-answer
-    start-requires
-    answer-requires
+    slice-aggregate-respond
+    respond-requires
     enum-told
     returns
     returns-2)
