@@ -1,4 +1,4 @@
-// The operator lines below a header (the Rust's `parse_instrument`): those up to the first that is none, each kept in two columns.
+// The operator lines below a header (the Rust's `instrument::parse`): those up to the first that is none, each kept in two columns.
 
 ghost use mathlib.Core.Path.{_≡_};
 ghost use mathlib.Core.List.{[], _∷_, _++_};

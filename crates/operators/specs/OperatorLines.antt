@@ -1,5 +1,5 @@
 -- Operator lines, as document 01 has them: which lines below a header are an instrument's, what one of them says, and its refusals in their order.
--- What the lines come to, commands and a release, stands in `instrument`'s `specs/Lines.antt`. Assumes nothing.
+-- What the lines come to, commands and a release, stands in `tree`'s `specs/Lines.antt`. Assumes nothing.
 use mathlib.Core.Bool.{Bool, true, false, _||_}
 use mathlib.Core.List.{List, [], _∷_}
 use mathlib.Core.Option.{Option, some}
