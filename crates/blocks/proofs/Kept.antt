@@ -1,4 +1,5 @@
--- Operator lines in their two columns: only the front of a column tells the first lines, and a line put behind them is one more. Assumes nothing.
+-- Operator lines in their two columns: there are as many as are asked for, only the front of a column tells the first
+-- lines, and a line put behind them is one more. Assumes nothing.
 use mathlib.Core.Path.{_≡_, refl, sym, ap, ap₂, _∙_}
 use mathlib.Core.List.{List, [], _∷_, _++_, append-assoc}
 use Prim.Native.Nat.{ℕ, zero, suc, _+_, _*_, _≤_, _<_}
@@ -25,6 +26,11 @@ module _ {A : Type 0} (l : List A) (at : ℕ) (vs : List A) (h : at + length vs 
   stored-rest = ap (drop at) stored ∙ drop-at (take at l) _ at (length-take-le at l (omega arith))
 
 -- ---- lines
+
+pub lines-length : (n : ℕ) (fs : List Float) (ss : List ℕ) → length (linesIn n fs ss) ≡ n
+unfolding linesIn
+lines-length zero fs ss = refl
+lines-length (suc n) fs ss = ap suc (lines-length n (drop 6 fs) (drop 2 ss))
 
 -- the last of some lines behind the others
 lines-last : (n : ℕ) (fs : List Float) (ss : List ℕ) → linesIn (suc n) fs ss ≡ linesIn n fs ss ++ linesIn 1 (drop (6 * n) fs) (drop (2 * n) ss)

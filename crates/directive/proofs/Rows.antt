@@ -27,7 +27,6 @@ use Rattle.keys.specs.declared.key.KeyAt.the-variants.{Found, Absent}
 use Rattle.environment.specs.declared.range.RangedValue.{RangedValue}
 use Rattle.environment.specs.declared.range.RangedValue.the-variants as RangedValue
 use Rattle.environment.specs.Bounds.{Bounds, tempos, denominators}
-use Rattle.environment.specs.Environment.{withTempo, withDenominator}
 use Rattle.keys.specs.Keys.{keyAt, keyFound, keyWidth}
 use Rattle.environment.specs.Ranges.{digitRun, ranged, valueOutcome}
 use Rattle.directive.specs.declared.directive.Directive.the-variants.{Tempo, Denominator, OfKey, Refused}
@@ -66,31 +65,31 @@ module _ (mode : Mode) (text : List ℕ) where
       pub tempo-to : (v stop : ℕ) → stop ≡ intWidth n → r ≡ RangedValue.Value v → tailed mode stop (length text) ≡ false
           → (line : ℕ) → directiveOutcome line (Tempo v) ≡ changeOf mode line (bytes "#tempo") text
       unfolding changeOf directives rowNamed same bytes directiveOutcome
-      tempo-to v stop i e t line = row-to tempos withTempo n r g h v stop i e t line
+      tempo-to v stop i e t line = row-to tempos _ n r g h v stop i e t line
 
       pub tempo-tailed : (v stop : ℕ) → stop ≡ intWidth n → r ≡ RangedValue.Value v → tailed mode stop (length text) ≡ true
           → (line : ℕ) → directiveOutcome line (Refused 32) ≡ changeOf mode line (bytes "#tempo") text
       unfolding changeOf directives rowNamed same bytes directiveOutcome
-      tempo-tailed v stop i e t line = row-tailed tempos withTempo n r g h v stop i e t line
+      tempo-tailed v stop i e t line = row-tailed tempos _ n r g h v stop i e t line
 
       pub tempo-refused : (k : ℕ) → r ≡ RangedValue.Refused k → (line : ℕ) → directiveOutcome line (Refused k) ≡ changeOf mode line (bytes "#tempo") text
       unfolding changeOf directives rowNamed same bytes directiveOutcome
-      tempo-refused k e line = row-refused tempos withTempo n r g h k e line
+      tempo-refused k e line = row-refused tempos _ n r g h k e line
 
     module _ (h : (line : ℕ) → valueOutcome line r ≡ ranged line denominators (digitRun n)) where
       pub denominator-to : (v stop : ℕ) → stop ≡ intWidth n → r ≡ RangedValue.Value v → tailed mode stop (length text) ≡ false
           → (line : ℕ) → directiveOutcome line (Denominator v) ≡ changeOf mode line (bytes "#denom") text
       unfolding changeOf directives rowNamed same bytes directiveOutcome
-      denominator-to v stop i e t line = row-to denominators withDenominator n r g h v stop i e t line
+      denominator-to v stop i e t line = row-to denominators _ n r g h v stop i e t line
 
       pub denominator-tailed : (v stop : ℕ) → stop ≡ intWidth n → r ≡ RangedValue.Value v → tailed mode stop (length text) ≡ true
           → (line : ℕ) → directiveOutcome line (Refused 32) ≡ changeOf mode line (bytes "#denom") text
       unfolding changeOf directives rowNamed same bytes directiveOutcome
-      denominator-tailed v stop i e t line = row-tailed denominators withDenominator n r g h v stop i e t line
+      denominator-tailed v stop i e t line = row-tailed denominators _ n r g h v stop i e t line
 
       pub denominator-refused : (k : ℕ) → r ≡ RangedValue.Refused k → (line : ℕ) → directiveOutcome line (Refused k) ≡ changeOf mode line (bytes "#denom") text
       unfolding changeOf directives rowNamed same bytes directiveOutcome
-      denominator-refused k e line = row-refused denominators withDenominator n r g h k e line
+      denominator-refused k e line = row-refused denominators _ n r g h k e line
 
   module _ (k : Key) (next : ℕ) (e : keyAt text 0 ≡ Found k next) where
     pub key-to : tailed mode next (length text) ≡ false → (line : ℕ) → directiveOutcome line (OfKey k) ≡ changeOf mode line (bytes "#key") text

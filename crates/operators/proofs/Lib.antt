@@ -1,3 +1,4 @@
+pub mod Answers
 pub mod Examples
 pub mod Indents
 pub mod Steps

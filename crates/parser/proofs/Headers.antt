@@ -23,6 +23,7 @@ use Rattle.blocks.specs.Blocks.{linesIn, blockOutcome}
 use Rattle.commands.specs.Commands.{linesHeld}
 use Rattle.layout.specs.Regions.{region}
 use Rattle.bank.specs.Bank.{linesAt, linesFrom}
+use Rattle.blocks.proofs.Kept.{lines-length}
 use Rattle.layout.proofs.Regions.{lent, back, lent-region, region-wide, back-length, back-here, back-beside}
 use Rattle.lines.specs.Names.{namesIn}
 use Rattle.tables.specs.Tables.{headerOf, headerLine, numberOf, headersAfter}
@@ -35,7 +36,7 @@ use Rattle.parser.specs.Columns.{Tables, tablesOf, macroColumn, nameColu
 use Rattle.parser.proofs.Numbers.{At, header-at, at-refused, at-number, number-of}
 use Rattle.parser.proofs.Going.{lined, read-going, goes-refused, fits-passed}
 use Rattle.parser.proofs.Pieces.{before-lent, after-lent}
-use Rattle.parser.proofs.ReadLines.{OfLines, all-of-lines, lines-length, held-whole}
+use Rattle.parser.proofs.ReadLines.{OfLines, all-of-lines, held-whole}
 
 -- ---- instruments in their regions
 

@@ -3,7 +3,7 @@
 use mathlib.Core.Path.{_≡_, refl, ap, ap₂, _∙_}
 use mathlib.Core.List.{List, [], _∷_, map}
 use mathlib.Core.Option.{Option, some}
-use Prim.Native.Nat.{ℕ, zero, suc, _+_, _/_, _≤_, min}
+use Prim.Native.Nat.{ℕ, suc, _+_, _/_, _≤_, min}
 use native.Mathlib.Omega.{arith}
 use lib.ListN.{length, drop}
 use lib.Ieee.{Float}
@@ -59,11 +59,6 @@ all-of-lines mode before line above (l ∷ ls) =
     (λ os k. holds-going (OfLines (l ∷ ls)) (o ∷ os) (record { whole = ap₂ (λ (x : Line) (xs : List Line). x ∷ xs) w (k .whole); many = ap suc (k .many) })))
 
 -- ---- the columns
-
-pub lines-length : (n : ℕ) (fs : List Float) (ss : List ℕ) → length (linesIn n fs ss) ≡ n
-unfolding linesIn
-lines-length zero fs ss = refl
-lines-length (suc n) fs ss = ap suc (lines-length n (drop 6 fs) (drop 2 ss))
 
 -- columns of one instrument hold what was read
 pub held-whole : (n : ℕ) (fs : List Float) (ss : List ℕ) → n ≤ 32 → length fs ≡ 192 → length ss ≡ 64 → map clipped (linesIn n fs ss) ≡ linesIn n fs ss

@@ -1,7 +1,9 @@
--- Laws of what follows an outcome that is known, and of refusals that have a number, which is not 0. Assumes nothing.
+-- Laws of what follows an outcome that is known, of what two equal outcomes have alike, and of refusals that have a
+-- number, which is not 0. Assumes nothing.
 use mathlib.Core.Path.{_≡_, refl, sym, ap, subst}
 use mathlib.Core.Bool.{Bool, true, false}
 use Prim.Native.Nat.{ℕ, _<_}
+use native.Mathlib.Omega.{arith}
 use Rattle.sheet.specs.Refusals.{Outcome, going, refused, _>>=_, _>>_, refuse_on_unless_, refuse_on_if_}
 
 -- ---- what follows
@@ -18,6 +20,38 @@ pub then-same : {A : Type 0} (m : Outcome A) → _>>=_ m (λ x. going x) ≡ m
 unfolding _>>=_
 then-same (going x) = refl
 then-same (refused n l) = refl
+
+-- ---- outcomes that are equal
+
+-- what an outcome gives, and d where it gives nothing
+given : {A : Type 0} → A → Outcome A → A
+given d (going x) = x
+given d (refused n l) = d
+
+-- 0 where it goes on, 1 where it is refused; a refusal's number and its line
+sort : {A : Type 0} → Outcome A → ℕ
+sort (going x) = 0
+sort (refused n l) = 1
+
+number : {A : Type 0} → Outcome A → ℕ
+number (going x) = 0
+number (refused n l) = n
+
+place : {A : Type 0} → Outcome A → ℕ
+place (going x) = 0
+place (refused n l) = l
+
+pub going-same : {A : Type 0} (x y : A) → going x ≡ going y → x ≡ y
+unfolding given
+going-same x y e = ap (given x) e
+
+pub refused-same : (A : Type 0) (n l m k : ℕ) → _≡_ {A = Outcome A} (refused n l) (refused m k) → (n ≡ m) × (l ≡ k)
+unfolding number place
+refused-same A n l m k e = (ap number e, ap place e)
+
+pub going-apart : {A B : Type 0} (x : A) (n l : ℕ) → going x ≡ refused n l → B
+unfolding sort
+going-apart x n l e = let z : _≡_ {A = ℕ} 0 1 = ap sort e in absurd (omega arith)
 
 -- ---- a refusal has a number
 
