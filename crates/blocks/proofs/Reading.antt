@@ -1,14 +1,13 @@
 -- Reading the operator lines below a header: what the lines from the walk's place on come to, with those that the columns keep in front, is what all
 -- of them come to. The reader's loop keeps this, and each of its exits cites one law. Assumes nothing.
 use mathlib.Core.Path.{_≡_, refl, sym, ap, ap₂, subst, _∙_}
-use mathlib.Core.Bool.{true, false, _&&_}
+use mathlib.Core.Bool.{true, false}
 use mathlib.Core.List.{List, [], _∷_, _++_, append-nil}
 use mathlib.Core.Option.{Option, none, some}
 use Prim.Native.Nat.{ℕ, zero, suc, _+_, _-_, _≤_, _<_}
 use native.Mathlib.Nat.{add-zero}
 use native.Mathlib.Numerals.{add-one}
 use native.Mathlib.Omega.{arith}
-use lib.Dec.{leb}
 use lib.ListN.{length, take, drop, drop-of-length-le}
 use lib.Seq.{append-snoc, drop-drop}
 use lib.Ieee.{Float}
@@ -25,13 +24,14 @@ use Rattle.number.specs.Decimal.{decimalAt}
 use Rattle.operator.specs.declared.operator.Operator.{Operator}
 use Rattle.tree.specs.Lines.{Line, indentRefusal}
 use Rattle.sheet.specs.Refusals.{Outcome, going, refused, _>>=_, _>>_}
+use Rattle.sheet.proofs.Basics.{false-true}
 use Rattle.sheet.proofs.Holds.{Holds, holds-of}
 use Rattle.sheet.proofs.Outcomes.{then-going, then-refused, then-same, Numbered, numbered-going, numbered-refused, numbered-of, numbered-unless, numbered-if, numbered-then}
 use Rattle.strict.specs.declared.mode.Mode.{Mode}
 use Rattle.blocks.specs.declared.block.Block.{Block}
 use Rattle.operators.specs.OperatorLines.{ends, operatorLines, indentOf, indented, readable, numbersRead, present, feedbackRead, operatorRead, operatorsRead}
 use Rattle.operators.specs.Answers.{indentAbove}
-use Rattle.blocks.specs.Blocks.{linesIn, blockRead, blockOutcome}
+use Rattle.blocks.specs.Blocks.{linesIn, hasRoom, blockRead, blockOutcome}
 use Rattle.operators.proofs.Indents.{Fits, one-fits}
 
 -- ---- a line's refusal is not 0
@@ -137,28 +137,41 @@ Answered mode source at fs₀ ss₀ fs ss b =
     ((line : ℕ) → blockOutcome line b fs ss ≡ blockRead mode line (drop at source) (length fs₀) (length ss₀))
     × ((b .next ≡ behindLines (b .count) source at)
     × ((b .refusal ≡ 0 → linesOf (drop (b .next) source) ≡ drop (b .count) (linesOf (drop at source)))
-    × (((at ≤ b .next) × (at ≤ length source → b .next ≤ length source)) × (b .count ≤ 32))))
+    × (((at ≤ b .next) × (at ≤ length source → b .next ≤ length source))
+    × ((b .count ≤ 32) × (hasRoom (length fs₀) (length ss₀) ≡ false → (fs ≡ fs₀) × (ss ≡ ss₀))))))
 
 module _ (mode : Mode) (source : List ℕ) (at : ℕ) (fs : List Float) (ss : List ℕ) where
-  answered-narrow : (leb 192 (length fs) && leb 64 (length ss)) ≡ false → Answered mode source at fs ss fs ss (record { count = 0; next = at; refusal = 21 })
+  answered-narrow : hasRoom (length fs) (length ss) ≡ false → Answered mode source at fs ss fs ss (record { count = 0; next = at; refusal = 21 })
   unfolding blockOutcome blockRead behindLines
-  answered-narrow e =
-      (λ line. ap (refused 21) (add-zero line) ∙ sym (rw (e, blockRead)), (refl, ((λ z. absurd (omega (arith, z))), ((omega arith, λ i. i), omega arith))))
+  answered-narrow e = (
+    λ line. ap (refused 21) (add-zero line) ∙ sym (rw (e, blockRead)),
+    (refl, ((λ z. absurd (omega (arith, z))), ((omega arith, λ i. i), (omega arith, λ k. (refl, refl))))),
+  )
 
   pub narrow-numbers : length fs < 192 → Answered mode source at fs ss fs ss (record { count = 0; next = at; refusal = 21 })
+  unfolding hasRoom
   narrow-numbers h = answered-narrow (rw (lt-leb 192 (length fs) h))
 
   pub narrow-shape : 192 ≤ length fs → length ss < 64 → Answered mode source at fs ss fs ss (record { count = 0; next = at; refusal = 21 })
+  unfolding hasRoom
   narrow-shape h k = answered-narrow (rw (le-leb 192 (length fs) h, lt-leb 64 (length ss) k))
 
 module _ (mode : Mode) (source : List ℕ) (at : ℕ) (fs₀ : List Float) (ss₀ : List ℕ) (fs : List Float) (ss : List ℕ) (place count before : ℕ)
     (r : Reading mode source at fs₀ ss₀ fs ss place count before) where
-  -- the columns have room, so the lines are all that counts
+  -- the columns have room
+  room : hasRoom (length fs₀) (length ss₀) ≡ true
+  unfolding hasRoom
+  room = rw (le-leb 192 (length fs₀) (r .wide), le-leb 64 (length ss₀) (r .high))
+
+  roomy : {A : Type 0} → hasRoom (length fs₀) (length ss₀) ≡ false → A
+  roomy e = false-true (sym e ∙ room)
+
+  -- so the lines are all that counts
   block-means : (line : ℕ)
       → blockRead mode line (drop at source) (length fs₀) (length ss₀)
       ≡ _>>=_ (operatorsRead mode (indentAbove count before) (line + count) count (operatorLines (linesOf (drop place source)))) (λ os. going (linesIn count fs ss ++ os))
   unfolding blockRead
-  block-means line = rw (le-leb 192 (length fs₀) (r .wide), le-leb 64 (length ss₀) (r .high), blockRead) (r .means line)
+  block-means line = rw (room, blockRead) (r .means line)
 
   -- no operator line follows
   answered-done : operatorLines (linesOf (drop place source)) ≡ [] → Answered mode source at fs₀ ss₀ fs ss (record { count = count; next = place; refusal = 0 })
@@ -169,7 +182,7 @@ module _ (mode : Mode) (source : List ℕ) (at : ℕ) (fs₀ : List Float) (ss�
         (block-means line
         ∙ then-going [] _ _ (ap (operatorsRead mode (indentAbove count before) (line + count) count) e)
         ∙ ap going (append-nil (linesIn count fs ss))),
-    (r .behind, ((λ z. r .lines), ((r .onward, r .inside), r .few))),
+    (r .behind, ((λ z. r .lines), ((r .onward, r .inside), (r .few, roomy)))),
   )
 
   pub answered-end : length source ≤ place → Answered mode source at fs₀ ss₀ fs ss (record { count = count; next = place; refusal = 0 })
@@ -202,7 +215,7 @@ module _ (mode : Mode) (source : List ℕ) (at : ℕ) (fs₀ : List Float) (ss�
             (block-means line
             ∙ then-refused (suc n) (line + count) _ _
             (ap (operatorsRead mode (indentAbove count before) (line + count) count) here ∙ then-refused (suc n) (line + count) _ _ (sym (q (line + count))))),
-        (r .behind, ((λ z. absurd (omega (arith, z))), ((r .onward, r .inside), r .few))),
+        (r .behind, ((λ z. absurd (omega (arith, z))), ((r .onward, r .inside), (r .few, roomy)))),
       )
 
       module _ (tabs : ℕ) (o : Operator)

@@ -1,6 +1,6 @@
 -- The operator lines below a header, as code keeps them: the six numbers of each operator in one column, its indent and its feedback in another. Assumes
 -- nothing.
-use mathlib.Core.Bool.{true, false, _&&_}
+use mathlib.Core.Bool.{Bool, true, false, _&&_}
 use mathlib.Core.List.{List, [], _∷_}
 use mathlib.Core.Option.{none}
 use Prim.Native.Nat.{ℕ, zero, suc, _+_, _*_}
@@ -34,11 +34,15 @@ linesIn (suc n) fs ss =
     }
     ∷ linesIn n (drop 6 fs) (drop 2 ss)
 
+-- "Operators 32 per instrument": whether columns of these lengths have room for as many
+unfoldable pub hasRoom : ℕ → ℕ → Bool
+hasRoom numbers shape = leb (6 * operatorsMost) numbers && leb (2 * operatorsMost) shape
+
 -- what comes of the operator lines of a text, the first of which has this number; 21 where the columns have no room for 32 operators
 unfoldable pub blockRead : Mode → ℕ → List ℕ → ℕ → ℕ → Outcome (List Line)
-unfolding linesOf operatorLines operatorsRead
+unfolding linesOf operatorLines operatorsRead hasRoom
 blockRead mode line below numbers shape =
-    elim (leb (6 * operatorsMost) numbers && leb (2 * operatorsMost) shape)
+    elim (hasRoom numbers shape)
     [ true ↦ operatorsRead mode none line 0 (operatorLines (linesOf below)) | false ↦ refused 21 line ]
 
 -- what an answer and the columns tell: a refusal is given at the line behind those that were read

@@ -1,12 +1,13 @@
 // The operator lines below a header (the Rust's `instrument::parse`): those up to the first that is none, each kept in two columns.
 
 ghost use mathlib.Core.Path.{_≡_};
+ghost use mathlib.Core.Bool.{false};
 ghost use mathlib.Core.List.{[], _∷_, _++_};
 ghost use Prim.Native.Nat.{ℕ, _+_, _≤_, _<_};
 ghost use lib.ListN.{length, drop};
 ghost use Rattle.lines.specs.Lines.{linesOf, behindLines};
 ghost use Rattle.operators.specs.OperatorLines.{ends};
-ghost use Rattle.blocks.specs.Blocks.{linesIn, blockRead, blockOutcome};
+ghost use Rattle.blocks.specs.Blocks.{linesIn, hasRoom, blockRead, blockOutcome};
 use lines::lines::line_at;
 use operator::operator::Operator;
 use operators::line::OperatorLine;
@@ -57,7 +58,8 @@ fn put(numbers: &mut [f32], shape: &mut [usize], n: usize, tabs: usize, op: Oper
     shape[place + 1] = op.feedback as usize;
 }
 
-// The operator lines from place `at` of a source on. Where the columns have no room for 32 operators, 21.
+// The operator lines from place `at` of a source on. Where the columns have no room for 32 operators, 21, and they are
+// left as they are.
 pub fn read_block(
     source: &[u8],
     at: usize,
@@ -70,6 +72,9 @@ pub fn read_block(
     ensures onward { λ r. ⌜ (r .refusal ≡ 0 → linesOf (drop (r .next) (now (source .entry))) ≡ drop (r .count) (linesOf (drop at (now (source .entry))))) ⌝ }
     ensures within { λ r. ⌜ (at ≤ r .next) × (at ≤ length (now (source .entry)) → r .next ≤ length (now (source .entry))) ⌝ }
     ensures few { λ r. ⌜ r .count ≤ 32 ⌝ }
+    ensures kept { λ r.
+        ⌜ (hasRoom (length (now (numbers .entry))) (length (now (shape .entry))) ≡ false
+        → (now (numbers .exit) ≡ now (numbers .entry)) × (now (shape .exit) ≡ now (shape .entry))) ⌝ }
 {
     let mut place = at;
     let mut count = 0;

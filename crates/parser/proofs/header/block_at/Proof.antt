@@ -61,7 +61,7 @@ returns c =
     let a = b .before .before .before .before .before .before in
     let e = b .read-block .ensures in (
       blocked (a .args .mode) (a .args .source .now) (a .args .at) (a .args .i) (b .read-block .result) (a .args .numbers .now) (a .args .shape .now) (b .read-block .last .1 .1 .0) (b .read-block .last .1 .1 .1 .0)
-          (a .pre .0) (a .pre .1 .0) (a .pre .1 .1) (b .read-block .kept .1 .1 .0) (b .read-block .kept .1 .1 .1 .0) (e .0) (e .1 .1 .0) (e .1 .1 .1 .0 .0) (e .1 .1 .1 .0 .1) (e .1 .1 .1 .1),
+          (a .pre .0) (a .pre .1 .0) (a .pre .1 .1) (b .read-block .kept .1 .1 .0) (b .read-block .kept .1 .1 .1 .0) (e .0) (e .1 .1 .0) (e .1 .1 .1 .0 .0) (e .1 .1 .1 .0 .1) (e .1 .1 .1 .1 .0),
       blocked-beside (a .args .mode) (a .args .source .now) (a .args .at) (a .args .i) (b .read-block .result) (a .args .numbers .now) (a .args .shape .now) (b .read-block .last .1 .1 .0) (b .read-block .last .1 .1 .1 .0)
           (a .pre .0) (a .pre .1 .0) (a .pre .1 .1) (b .read-block .kept .1 .1 .0) (b .read-block .kept .1 .1 .1 .0),
     )
