@@ -18,6 +18,7 @@ use Rattle.lines.proofs.Named.{named-is, name-within}
 use Rattle.number.specs.declared.digits.Int.{Int}
 use Rattle.number.specs.Digits.{valueMost, intAt, intWidth}
 use Rattle.sheet.specs.Refusals.{Outcome, going, refused, _>>=_, _>>_, refuse_on_without_}
+use Rattle.sheet.proofs.Outcomes.{then-going, then-refused}
 use Rattle.strict.specs.declared.mode.Mode.{Mode}
 use Rattle.strict.specs.Strict.{tailed, readToItsEnd}
 use Rattle.strict.proofs.Tails.{read-through, read-tail}
@@ -27,8 +28,10 @@ use Rattle.keys.specs.declared.key.KeyAt.the-variants.{Found, Absent}
 use Rattle.environment.specs.declared.range.RangedValue.{RangedValue}
 use Rattle.environment.specs.declared.range.RangedValue.the-variants as RangedValue
 use Rattle.environment.specs.Bounds.{Bounds, tempos, denominators}
-use Rattle.keys.specs.Keys.{keyAt, keyFound, keyWidth}
+use Rattle.environment.specs.Environment.{withKey}
+use Rattle.keys.specs.Keys.{keyAt, keyWidth}
 use Rattle.environment.specs.Ranges.{digitRun, ranged, valueOutcome}
+use Rattle.environment.proofs.Limits.{key-found, key-absent}
 use Rattle.directive.specs.declared.directive.Directive.the-variants.{Tempo, Denominator, OfKey, Refused}
 use Rattle.directive.specs.Directives.{directives, changeOf, directiveOf, directiveOutcome}
 
@@ -92,17 +95,21 @@ module _ (mode : Mode) (text : List ℕ) where
       denominator-refused k e line = row-refused denominators _ n r g h k e line
 
   module _ (k : Key) (next : ℕ) (e : keyAt text 0 ≡ Found k next) where
+    key-read : (line : ℕ) → changeOf mode line (bytes "#key") text ≡ (readToItsEnd mode line text next >> going (withKey k))
+    unfolding changeOf directives rowNamed same bytes keyWidth
+    key-read line = then-going k _ _ (key-found line (keyAt text 0) k next e) ∙ rw e
+
     pub key-to : tailed mode next (length text) ≡ false → (line : ℕ) → directiveOutcome line (OfKey k) ≡ changeOf mode line (bytes "#key") text
-    unfolding changeOf directives rowNamed same bytes directiveOutcome keyFound keyWidth _>>=_ _>>_ refuse_on_without_
-    key-to t line = sym (rw (e, read-through mode line text next t))
+    unfolding directiveOutcome _>>_
+    key-to t line = sym (key-read line ∙ rw (read-through mode line text next t))
 
     pub key-tailed : tailed mode next (length text) ≡ true → (line : ℕ) → directiveOutcome line (Refused 32) ≡ changeOf mode line (bytes "#key") text
-    unfolding changeOf directives rowNamed same bytes directiveOutcome keyFound keyWidth _>>=_ _>>_ refuse_on_without_
-    key-tailed t line = sym (rw (e, read-tail mode line text next t))
+    unfolding directiveOutcome _>>_
+    key-tailed t line = sym (key-read line ∙ rw (read-tail mode line text next t))
 
   pub key-refused : keyAt text 0 ≡ Absent → (line : ℕ) → directiveOutcome line (Refused 9) ≡ changeOf mode line (bytes "#key") text
-  unfolding changeOf directives rowNamed same bytes directiveOutcome keyFound _>>=_ refuse_on_without_
-  key-refused e line = rw e
+  unfolding changeOf directives rowNamed same bytes directiveOutcome
+  key-refused e line = sym (then-refused _ line _ _ (key-absent line (keyAt text 0) e))
 
 -- ---- which row a name has
 

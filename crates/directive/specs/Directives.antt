@@ -13,15 +13,15 @@ use Rattle.strict.specs.Strict.{readToItsEnd}
 use Rattle.environment.specs.declared.environment.Environment.{Environment}
 use Rattle.directive.specs.declared.directive.Directive.{Directive}
 use Rattle.directive.specs.declared.directive.Directive.the-variants.{Tempo, Denominator, OfKey, Refused}
-use Rattle.keys.specs.Keys.{keyAt, keyFound, keyWidth}
+use Rattle.keys.specs.Keys.{keyAt, keyWidth}
 use Rattle.environment.specs.Bounds.{denominators, tempos}
 use Rattle.environment.specs.Environment.{withTempo, withDenominator, withKey}
-use Rattle.environment.specs.Ranges.{digitRun, ranged}
+use Rattle.environment.specs.Ranges.{digitRun, ranged, keyOutcome}
 
 -- what each directive changes, by its value, which is what its second token begins with; in strict mode it is all of the token, or else 32 comes "after 8
 -- or 9"
 unfoldable pub directives : Mode → ℕ → List (String × (List ℕ → Outcome (Environment → Environment)))
-unfolding ranged digitRun intAt keyFound keyAt readToItsEnd intWidth keyWidth
+unfolding ranged digitRun intAt keyOutcome keyAt readToItsEnd intWidth keyWidth
 directives mode line = (
   "#tempo",
   λ text. do
@@ -39,7 +39,7 @@ directives mode line = (
     ∷ (
       "#key",
       λ text. do
-        k ← refuse 9 on line without (keyFound (keyAt text 0))
+        k ← keyOutcome line (keyAt text 0)
         readToItsEnd mode line text (keyWidth (keyAt text 0))
         going (withKey k),
     )

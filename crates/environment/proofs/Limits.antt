@@ -1,4 +1,4 @@
--- Laws of values within bounds, one for each answer, and of the octave's steps. Assumes nothing.
+-- Laws of values within bounds and of keys, one for each answer, and of the octave's steps. Assumes nothing.
 use mathlib.Core.Path.{_≡_, ap}
 use mathlib.Core.Bool.{true, false}
 use Prim.Native.Nat.{ℕ, _+_, _-_, _≤_, _<_}
@@ -10,13 +10,17 @@ use Rattle.number.specs.declared.decimal.Decimal.{Decimal}
 use Rattle.number.specs.declared.decimal.Decimal.the-variants.{Value, Unreadable, TooLong}
 use Rattle.number.specs.declared.digits.Int.{Int}
 use Rattle.number.specs.declared.digits.Int.the-variants.{Number, Absent}
-use Rattle.sheet.specs.Refusals.{_>>=_, _>>_, refuse_on_unless_, refuse_on_if_, refuse_on_without_}
+use Rattle.keys.specs.declared.key.Key.{Key}
+use Rattle.keys.specs.declared.key.KeyAt.{KeyAt}
+use Rattle.keys.specs.declared.key.KeyAt.the-variants as KeyAt
+use Rattle.keys.specs.Keys.{keyFound}
+use Rattle.sheet.specs.Refusals.{going, refused, _>>=_, _>>_, refuse_on_unless_, refuse_on_if_, refuse_on_without_}
 use Rattle.environment.specs.declared.environment.Environment.{Environment}
 use Rattle.environment.specs.declared.range.RangedValue.the-variants as RangedValue
 use Rattle.environment.specs.declared.range.RangedAmplitude.the-variants as RangedAmplitude
 use Rattle.environment.specs.Bounds.{bounds}
 use Rattle.environment.specs.Environment.{withOctave, octaveUp, octaveDown}
-use Rattle.environment.specs.Ranges.{digitRun, amountOf, ranged, loudness, valueOutcome, amplitudeOutcome}
+use Rattle.environment.specs.Ranges.{digitRun, amountOf, ranged, loudness, keyTaken, valueOutcome, amplitudeOutcome, keyOutcome}
 
 -- ---- octaves
 
@@ -79,3 +83,15 @@ module _ (d : Decimal) where
     pub amplitude-within : lt x plusZero ≡ false → lt one x ≡ false → (line : ℕ) → amplitudeOutcome line (RangedAmplitude.Amplitude x) ≡ loudness line (amountOf d)
     unfolding amplitudeOutcome amountOf loudness _>>=_ _>>_ refuse_on_if_
     amplitude-within g h line = rw (e, g, h)
+
+-- ---- keys
+
+-- what each case of the answer stands for
+module _ (line : ℕ) (r : KeyAt) where
+  pub key-found : (k : Key) (next : ℕ) → r ≡ KeyAt.Found k next → keyOutcome line r ≡ going k
+  unfolding keyOutcome refuse_on_without_
+  key-found k next e = rw e
+
+  pub key-absent : r ≡ KeyAt.Absent → keyOutcome line r ≡ refused 9 line
+  unfolding keyOutcome refuse_on_without_
+  key-absent e = rw e

@@ -1,4 +1,5 @@
--- The values that commands and directives take, with their refusals in order: "`o`, `l`, `t`: 7, 8."; "Decimal command: 7, 19, 8." Assumes nothing.
+-- The values that commands and directives take, with their refusals in order: "`o`, `l`, `t`: 7, 8."; "Decimal command:
+-- 7, 19, 8."; "key without accidental" is 9. Assumes nothing.
 use mathlib.Core.Bool.{_||_}
 use mathlib.Core.Option.{Option, none, some}
 use Prim.Native.Nat.{ℕ}
@@ -9,6 +10,9 @@ use Rattle.number.specs.declared.digits.Int.the-variants.{Number, Absent}
 use Rattle.number.specs.declared.decimal.Decimal.{Decimal}
 use Rattle.number.specs.declared.decimal.Decimal.the-variants.{Value, Unreadable, TooLong}
 use Rattle.sheet.specs.Refusals.{Outcome, going, refused, _>>=_, _>>_, refuse_on_unless_, refuse_on_if_, refuse_on_without_}
+use Rattle.keys.specs.declared.key.Key.{Key}
+use Rattle.keys.specs.declared.key.KeyAt.{KeyAt}
+use Rattle.keys.specs.Keys.{keyFound}
 use Rattle.environment.specs.declared.range.RangedValue.{RangedValue}
 use Rattle.environment.specs.declared.range.RangedValue.the-variants as RangedValue
 use Rattle.environment.specs.declared.range.RangedAmplitude.{RangedAmplitude}
@@ -51,6 +55,10 @@ loudness line a = do
   refuse 8 on line if (lt x plusZero || lt one x)
   going x
 
+-- "`k` and `#key` take any run of letters a to g, empty or repeating, then `+`, `-` or `=`"; "key without accidental" is 9
+unfoldable pub keyTaken : ℕ → Option Key → Outcome Key
+keyTaken line k = refuse 9 on line without k
+
 -- ---- answers: what each case stands for, on a line
 
 unfoldable pub valueOutcome : ℕ → RangedValue → Outcome ℕ
@@ -60,3 +68,7 @@ valueOutcome line (RangedValue.Refused n) = refused n line
 unfoldable pub amplitudeOutcome : ℕ → RangedAmplitude → Outcome Float
 amplitudeOutcome line (RangedAmplitude.Amplitude x) = going x
 amplitudeOutcome line (RangedAmplitude.Refused n) = refused n line
+
+unfoldable pub keyOutcome : ℕ → KeyAt → Outcome Key
+unfolding keyTaken keyFound
+keyOutcome line k = keyTaken line (keyFound k)

@@ -16,7 +16,7 @@ use Rattle.keys.specs.declared.key.Key.{Key}
 use Rattle.environment.specs.Ranges.{Amount, amount, unreadable, tooLong, readable, loudness}
 use Rattle.settings.specs.Changes.{octaveRead, valueRead, tempoRead, amplitudeRead, keyRead}
 use Rattle.items.specs.Items.{Item, note, up, down, opening, cut, closing, octave, value, tempo, amplitude, key, instrument, call, unknown, itemsOf}
-use Rattle.parser.proofs.Numbers.{numbered-without, ranged-numbered}
+use Rattle.parser.proofs.Numbers.{numbered-without, ranged-numbered, key-taken-numbered}
 use Rattle.tables.specs.Named.{Macro}
 use Rattle.part.specs.Body.{Book, Progress, oneStep, noted, opened, cutHere, closed, changing, called, does, stepped, run, inside, bodyRead}
 
@@ -58,7 +58,7 @@ module _ (line : ℕ) where
 
     key-numbered : (k : Option Key) → Numbered (keyRead line k e)
     unfolding keyRead
-    key-numbered k = numbered-then _ _ (numbered-without 9 line k (omega arith)) (λ x. numbered-going _)
+    key-numbered k = numbered-then _ _ (key-taken-numbered line k) (λ x. numbered-going _)
 
   changing-numbered : (o : Outcome Environment) (p : Progress) → Numbered o → Numbered (changing o p)
   unfolding changing

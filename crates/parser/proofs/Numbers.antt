@@ -15,8 +15,9 @@ use Rattle.strict.specs.declared.mode.Mode.{Mode}
 use Rattle.environment.specs.declared.environment.Environment.{Environment}
 use Rattle.environment.specs.Bounds.{Bounds, tempos, denominators}
 use Rattle.environment.specs.Environment.{withTempo, withDenominator, withKey}
+use Rattle.keys.specs.declared.key.Key.{Key}
 use Rattle.keys.specs.Keys.{keyAt, keyFound}
-use Rattle.environment.specs.Ranges.{digitRun, ranged}
+use Rattle.environment.specs.Ranges.{digitRun, ranged, keyTaken}
 use Rattle.directive.specs.declared.directive.Directive.{Directive}
 use Rattle.directive.specs.declared.directive.Directive.the-variants.{Tempo, Denominator, OfKey, Refused}
 use Rattle.directive.specs.Directives.{directives, changeOf, directiveOf, directiveOutcome, applied}
@@ -36,6 +37,10 @@ unfolding ranged
 ranged-numbered line b n =
     numbered-then _ _ (numbered-without 7 line n (omega arith)) (λ v. numbered-unless 8 line _ _ (omega arith) (numbered-going v))
 
+pub key-taken-numbered : (line : ℕ) (k : Option Key) → Numbered (keyTaken line k)
+unfolding keyTaken
+key-taken-numbered line k = numbered-without 9 line k (omega arith)
+
 module _ (mode : Mode) (line : ℕ) (text : List ℕ) where
   tempo-numbered : Numbered (changeOf mode line (bytes "#tempo") text)
   unfolding changeOf directives rowNamed same bytes
@@ -50,7 +55,8 @@ module _ (mode : Mode) (line : ℕ) (text : List ℕ) where
   key-numbered : Numbered (changeOf mode line (bytes "#key") text)
   unfolding changeOf directives rowNamed same bytes
   key-numbered =
-      numbered-then _ _ (numbered-without 9 line (keyFound (keyAt text 0)) (omega arith)) (λ k. numbered-if _ _ _ _ (omega arith) (numbered-going (withKey k)))
+      numbered-then _ _ (key-taken-numbered line (keyFound (keyAt text 0)))
+      (λ k. numbered-if _ _ _ _ (omega arith) (numbered-going (withKey k)))
 
   change-numbered : (name : List ℕ) → Numbered (changeOf mode line name text)
   change-numbered name =

@@ -9,6 +9,7 @@ use lib.Ieee.{Float, lt}
 use borrow.Author.Tests.{leb-true}
 use Rattle.ieee.specs.Constants.{plusZero, one}
 use Rattle.sheet.proofs.Basics.{both}
+use Rattle.sheet.proofs.Outcomes.{then-going, then-refused}
 use Rattle.sheet.specs.Refusals.{Outcome, going, _>>=_, _>>_, refuse_on_unless_, refuse_on_if_, refuse_on_without_}
 use Rattle.environment.specs.declared.environment.Environment.{Environment}
 use Rattle.settings.specs.declared.command.Changed.the-variants.{To, Refused}
@@ -23,7 +24,8 @@ use Rattle.environment.specs.Bounds.{Bounds, octaves, values, tempos, within}
 use Rattle.settings.specs.Changes.{Low, changeOutcome, octaveRead, valueRead, tempoRead, amplitudeRead, keyRead}
 use Rattle.environment.specs.Environment.{withAmplitude, withKey}
 use Rattle.keys.specs.Keys.{keyFound}
-use Rattle.environment.specs.Ranges.{Amount, amount, unreadable, tooLong, readable, ranged, loudness, valueOutcome, amplitudeOutcome}
+use Rattle.environment.specs.Ranges.{Amount, amount, unreadable, tooLong, readable, ranged, loudness, valueOutcome, amplitudeOutcome, keyOutcome}
+use Rattle.environment.proofs.Limits.{key-found, key-absent}
 
 -- ---- answers
 
@@ -51,12 +53,12 @@ module _ (e : Environment) (a : Amount) where
 
 module _ (e : Environment) (r : KeyAt) where
   pub key-to : (k : Key) (next : ℕ) → r ≡ Found k next → (line : ℕ) → changeOutcome line (To (withKey k e)) ≡ keyRead line (keyFound r) e
-  unfolding changeOutcome keyRead keyFound _>>=_ refuse_on_without_
-  key-to k next g line = rw g
+  unfolding changeOutcome keyRead keyOutcome
+  key-to k next g line = sym (then-going k _ _ (key-found line r k next g))
 
   pub key-refused : r ≡ Absent → (line : ℕ) → changeOutcome line (Refused 9) ≡ keyRead line (keyFound r) e
-  unfolding changeOutcome keyRead keyFound _>>=_ refuse_on_without_
-  key-refused g line = rw g
+  unfolding changeOutcome keyRead keyOutcome
+  key-refused g line = sym (then-refused _ line _ _ (key-absent line r g))
 
 -- ---- octaves in range, and refusals whose number is not 0
 

@@ -2,14 +2,14 @@
 -- without accidental" is 9. Assumes nothing.
 use mathlib.Core.Option.{Option}
 use Prim.Native.Nat.{ℕ, _≤_, _<_}
-use Rattle.sheet.specs.Refusals.{Outcome, going, refused, _>>=_, refuse_on_without_}
+use Rattle.sheet.specs.Refusals.{Outcome, going, refused, _>>=_}
 use Rattle.environment.specs.declared.environment.Environment.{Environment}
 use Rattle.settings.specs.declared.command.Changed.{Changed}
 use Rattle.settings.specs.declared.command.Changed.the-variants.{To, Refused}
 use Rattle.keys.specs.declared.key.Key.{Key}
 use Rattle.environment.specs.Bounds.{octaves, values, tempos}
 use Rattle.environment.specs.Environment.{withOctave, withValue, withTempo, withAmplitude, withKey}
-use Rattle.environment.specs.Ranges.{Amount, ranged, loudness}
+use Rattle.environment.specs.Ranges.{Amount, ranged, loudness, keyTaken}
 
 module _ (line : ℕ) where
   unfoldable pub octaveRead : Option ℕ → Environment → Outcome Environment
@@ -37,8 +37,9 @@ module _ (line : ℕ) where
     going (withAmplitude x e)
 
   unfoldable pub keyRead : Option Key → Environment → Outcome Environment
+  unfolding keyTaken
   keyRead k e = do
-    x ← refuse 9 on line without k
+    x ← keyTaken line k
     going (withKey x e)
 
 -- ---- answers: what each case stands for, on a line
