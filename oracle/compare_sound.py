@@ -106,6 +106,10 @@ def out_of_range(dice, sheet):
     yield 28, (7, instrument, dice.pick((65, ALL)))
     yield 28, (8, dice.pick(sheet.commanded), dice.pick((256, ALL)))
     yield None, (6, instrument, MINUS_ZERO)
+    yield None, (11, dice.pick(sheet.commanded), ALL)
+    unused = sorted(set(range(sheet.instruments)) - {note[3] for note in sheet.notes})
+    if unused:
+        yield None, (6, dice.pick(unused), INFINITY)
     if sheet.notes:
         note = dice.below(len(sheet.notes))
         yield 28, (2, 0, 0)
@@ -113,6 +117,8 @@ def out_of_range(dice, sheet):
         yield 28, (5, note, dice.pick((NAN, BELOW, MINUS_THREE, MINUS_INFINITY, INFINITY, LONG)))
         yield 28, (6, sheet.notes[note][3], dice.pick((INFINITY, LONG)))
         yield None, (5, note, MINUS_ZERO)
+        for field in (9, 10):
+            yield None, (field, note, dice.pick((NAN, INFINITY, MINUS_INFINITY)))
 
 
 def damaged(dice, sheet):

@@ -44,18 +44,24 @@ fn counted(sheet: Sheet, asked: Request) -> Sheet {
     }
 }
 
-// Fields 4 and 5: a note's instrument and its duration.
+// Fields 4, 5, 9 and 10: a note's instrument, its duration, its amplitude and its frequency.
 fn note_with(note: Note, field: u32, becomes: u32) -> Note {
     let mut instrument = note.instrument;
     let mut duration = note.duration;
+    let mut amplitude = note.amplitude;
+    let mut frequency = note.frequency;
     if field == 4 {
         instrument = count_of(becomes);
     }
     if field == 5 {
         duration = of_bits(becomes);
     }
-    let amplitude = note.amplitude;
-    let frequency = note.frequency;
+    if field == 9 {
+        amplitude = of_bits(becomes);
+    }
+    if field == 10 {
+        frequency = of_bits(becomes);
+    }
     Note {
         amplitude,
         frequency,
@@ -95,7 +101,14 @@ fn fed_back(becomes: u32) -> Slot {
     Slot { command }
 }
 
-// Fields 6 to 8: an instrument's release, how many commands it counts, and a feedback.
+// Field 11: the first command sets the value aside for so many operators.
+fn set_aside(becomes: u32) -> Slot {
+    let n = count_of(becomes);
+    let command = Command::Stack(n);
+    Slot { command }
+}
+
+// Fields 6 to 8 and 11: an instrument's release, how many commands it counts, a feedback, and a first command that sets aside.
 fn instrument_with(by: Instrument, field: u32, becomes: u32) -> Instrument {
     let mut release = by.release;
     let mut count = by.count;
@@ -108,6 +121,9 @@ fn instrument_with(by: Instrument, field: u32, becomes: u32) -> Instrument {
     }
     if field == 8 {
         commands[0] = fed_back(becomes);
+    }
+    if field == 11 {
+        commands[0] = set_aside(becomes);
     }
     Instrument {
         release,
@@ -141,6 +157,12 @@ pub fn to(sheet: Sheet, asked: Request) -> Sheet {
         return counted(sheet, asked);
     }
     if asked.field <= 5 {
+        return noted(sheet, asked);
+    }
+    if asked.field == 9 {
+        return noted(sheet, asked);
+    }
+    if asked.field == 10 {
         return noted(sheet, asked);
     }
     played(sheet, asked)

@@ -7,8 +7,8 @@ pub mod Laid
 pub mod NotesKept
 pub mod Partings
 pub mod PartsKept
-pub mod Starred
 pub mod StepCount
+pub mod StepExamples
 pub mod StrictExamples
 pub mod StrictNumbers
 pub mod Throughout
