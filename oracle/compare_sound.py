@@ -27,7 +27,7 @@ FLOORS = {
     "refused 28": 2_300,
     "refused 29": 400,
     "refused 30": 2_450,
-    "odd but in range": 450,
+    "odd but in range": 1_200,
 }
 ASK = proved("ask_engine")
 STORED_SEED, STORED_SHEETS, STORED_ROOM = 3, 24, 400
