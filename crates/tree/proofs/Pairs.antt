@@ -56,7 +56,8 @@ last-here l = rw (forest-same l [])
 
 -- ---- no pairs
 
-next-stepped : (i : ℕ) (l : Line) (ls : List Line) → T (steppedAfter i (l ∷ ls)) → (i ≡ l .indent → ⊥) × T (steppedAfter (l .indent) ls)
+pub next-stepped : (i : ℕ) (l : Line) (ls : List Line) → T (steppedAfter i (l ∷ ls))
+    → (i ≡ l .indent → ⊥) × T (steppedAfter (l .indent) ls)
 unfolding steppedAfter
 next-stepped i l ls t =
     (apart (and-l (not (eqb i (l .indent))) (steppedAfter (l .indent) ls) t), and-r (not (eqb i (l .indent))) (steppedAfter (l .indent) ls) t)
