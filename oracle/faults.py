@@ -120,8 +120,27 @@ def long_sheet(dice):
     return with_lines(dice, "#denom 4", f"p t{dice.between(1, 2)} l4 [c]{dice.between(750, 770)}[r]{dice.between(0, 800)}")
 
 
+# No byte of a tail is a blank, so that the token stays one; the first is neither a digit nor a point, so that a number
+# before it ends there.
+INK = [chr(byte) for byte in range(128) if chr(byte) not in "\t\n\v\f\r "]
+TAIL_STARTS = [byte for byte in INK if byte not in "0123456789."]
+# Where a tail may stand: behind each token of an operator line, and behind the second token of a directive.
+TOKENS, DIRECTIVES = "1 0.5 0 0.25 1 0 3".split(), ("#tempo 120", "#denom 96", "#key fc+")
+
+
+def random_tail(dice):
+    """A tail of 1 to 200 bytes in one of these places; behind a directive it may be a later token, which is ignored."""
+    tail = dice.pick(TAIL_STARTS) + "".join(dice.pick(INK) for _ in range(dice.below(200)))
+    place = dice.below(len(TOKENS) + len(DIRECTIVES))
+    if place >= len(TOKENS):
+        return with_lines(dice, DIRECTIVES[place - len(TOKENS)] + dice.pick(("", "", "", " ")) + tail)
+    tokens = TOKENS[:place] + [TOKENS[place] + tail] + TOKENS[place + 1 :]
+    return operators(" ".join(tokens[: max(place + 1, dice.between(6, 7))]))(dice)
+
+
 # Numbers and keys with a tail, which strict mode refuses, and others beside them: a tail behind another refusal, and none at all.
 tailed = either(
+    random_tail,
     operators(
         "1 1 0 0 0,7 0", "1e3 1 0 0 1 0", "1 1 0 0 1 0x", "1 0.5.5 0 0 1 0", "1 1 0, 0, 1 0", "0,7 x 0 0 1 0", "x 0,7 0 0 1 0",
         f"{LONG}x 1 0 0 1 0", "1 1 0 5. 1,0 0", "1, 1 0 0 1", OP + " 3x", OP + " 256x", OP + " 255.", OP + " x3", OP + " 3", "0,7 1 0 0 1 0 256",
