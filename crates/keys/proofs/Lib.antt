@@ -1,3 +1,4 @@
 pub mod Letters
 pub mod Marks
 pub mod Moves
+pub mod WholeKeys

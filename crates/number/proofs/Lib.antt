@@ -6,3 +6,4 @@ pub mod Powers
 pub mod Rounding
 pub mod Runs
 pub mod Tokens
+pub mod WholeNumbers

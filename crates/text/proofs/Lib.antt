@@ -1,5 +1,6 @@
 pub mod Fronts
 pub mod Joins
+pub mod Passes
 pub mod Rows
 pub mod Sames
 pub mod Starts
