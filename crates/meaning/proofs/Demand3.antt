@@ -33,11 +33,11 @@ use Rattle.meaning.specs.Layout.{sheetOf, laidOut, readingOf}
 use Rattle.strict.specs.declared.mode.Mode.{Mode}
 use Rattle.meaning.specs.Sheets.{Read, readOf, plain, headerRead, directiveRead, macroRead, partRead, nothingRead, sheetRead}
 
--- ---- a fact of every instrument
+-- ---- a fact of every instrument, or of whatever a list has
 
-abbrev pub Every : (List Line → Type 0) → List (List Line) → Type 0
+abbrev pub Every : {A : Type 0} → (A → Type 0) → List A → Type 0
 Every P [] = Unit
-Every P (ls ∷ is) = P ls × Every P is
+Every P (x ∷ xs) = P x × Every P xs
 
 every-last : (P : List Line → Type 0) (is : List (List Line)) (ls : List Line) → Every P is → P ls → Every P (is ++ (ls ∷ []))
 every-last P [] ls e p = (p, tt)

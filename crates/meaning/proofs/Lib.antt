@@ -12,3 +12,5 @@ pub mod StepExamples
 pub mod StrictExamples
 pub mod StrictNumbers
 pub mod Throughout
+pub mod ToTheirEnds
+pub mod TokensInWords

@@ -1,6 +1,7 @@
 -- What request T-05 promises of strict numbers, for every byte string and at every rate. The definitions that this speaks of are `sheetRead`, what a source is
 -- read as in a mode, and `readingOf`, the same as the reader gives it: a refusal's number, 0 for none, and its line, the step count and the sheet. `Before.antt`
--- has the reading as it was without a mode. How each is proved stands in `Partings.antt`. Assumes nothing.
+-- has the reading as it was without a mode, `ReadTokens.antt` the tokens that are read, without a mode too. How each is
+-- proved stands in `Partings.antt`, `ToTheirEnds.antt` and `TokensInWords.antt`. Assumes nothing.
 use mathlib.Core.Path.{_≡_, sym, ap, _∙_}
 use mathlib.Core.Logic.{inl, inr}
 use mathlib.Core.List.{List}
@@ -10,14 +11,48 @@ use Rattle.sheet.specs.Refusals.{Outcome, going, refused}
 use Rattle.strict.specs.declared.mode.Mode.the-variants.{Plain, Strict}
 use Rattle.meaning.specs.Before as Before
 use Rattle.meaning.specs.Layout.{laidOut, readingOf}
+use Rattle.meaning.specs.ReadTokens.{ReadToItsEnd, tokensRead}
 use Rattle.meaning.specs.Sheets.{Read, sheetRead}
 use Rattle.meaning.proofs.Demand3.{Every, TreesValue, demand3-sheet}
 use Rattle.meaning.proofs.Partings.{Beside, sheet-beside, sheet-before}
+use Rattle.meaning.proofs.ToTheirEnds.{Decided, sheet-exact}
+use Rattle.meaning.proofs.TokensInWords.{Whole, sheet-in-words, words-sheet}
 
 module _ (rate : ℕ) (source : List ℕ) where
   -- "In plain mode nothing changes."
   pub plain-is-before : sheetRead Plain rate source ≡ Before.sheetRead rate source
   plain-is-before = sheet-before rate source
+
+  -- "an operator token must be read to its end, and so must the second token of `#tempo`, `#denom` and `#key`; later
+  -- tokens are ignored as before.": what plain mode accepts, strict mode accepts, and as the same, exactly where each
+  -- of these tokens is read to its end
+  pub strict-exactly : (r : Read) → sheetRead Plain rate source ≡ going r
+      → (Every ReadToItsEnd (tokensRead source) → sheetRead Strict rate source ≡ going r)
+      × (sheetRead Strict rate source ≡ going r → Every ReadToItsEnd (tokensRead source))
+  strict-exactly r e = go (sheet-exact rate source r e)
+    where
+      go : Decided (tokensRead source) r (sheetRead Strict rate source)
+          → (Every ReadToItsEnd (tokensRead source) → sheetRead Strict rate source ≡ going r)
+          × (sheetRead Strict rate source ≡ going r → Every ReadToItsEnd (tokensRead source))
+      go (inl p) = ((λ w. p .1), (λ s. p .0))
+      go (inr p) = ((λ w. absurd (p .0 w)), (λ s. absurd (p .1 r s)))
+
+  -- the same in words: exactly where each of them is nothing but a decimal, a digit run or a key
+  pub strict-in-words : (r : Read) → sheetRead Plain rate source ≡ going r
+      → (Every Whole (tokensRead source) → sheetRead Strict rate source ≡ going r)
+      × (sheetRead Strict rate source ≡ going r → Every Whole (tokensRead source))
+  strict-in-words r e =
+      ((λ w. strict-exactly r e .0 (words-sheet source w)), (λ s. sheet-in-words source (strict-exactly r e .1 s)))
+
+  -- "32, a number or key with a tail": where one of them is not, the refusal is 32
+  pub tail-refused : (r : Read) → sheetRead Plain rate source ≡ going r → (Every ReadToItsEnd (tokensRead source) → ⊥)
+      → (line : ℕ) × (sheetRead Strict rate source ≡ refused 32 line)
+  tail-refused r e h = go (sheet-beside rate source)
+    where
+      go : Beside (sheetRead Strict rate source) (sheetRead Plain rate source)
+          → (line : ℕ) × (sheetRead Strict rate source ≡ refused 32 line)
+      go (inl s) = absurd (h (strict-exactly r e .1 (s ∙ e)))
+      go (inr p) = p
 
   -- "A sheet accepted in strict mode gives the same notes and commands as in plain mode.": all that is read is the same, the steps too
   pub strict-accepted : (r : Read) → sheetRead Strict rate source ≡ going r → sheetRead Plain rate source ≡ going r

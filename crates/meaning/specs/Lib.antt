@@ -1,4 +1,5 @@
 pub mod Before
 pub mod Layout
 pub mod Parts
+pub mod ReadTokens
 pub mod Sheets
