@@ -7,11 +7,10 @@ use Prim.Native.Nat.{ℕ, zero, suc, _+_, _-_, _*_, _/_, _%_, _^_, _≤_, _<_}
 use native.Mathlib.Nat.{lt-trans, pow-suc}
 use native.Mathlib.Omega.{arith}
 use lib.Dec.{leb, ltb, lit<}
-use lib.ListN.{length, drop, getD, length-append}
+use lib.ListN.{length, getD, length-append}
 use borrow.Author.Tests.{lt-ltb, le-ltb, ltb-true, ltb-false, le-leb}
 use Rattle.text.specs.Quoted.{bytes}
-use Rattle.text.specs.Fronts.{front}
-use Rattle.text.proofs.Fronts.{cons-true, cons-false}
+use Rattle.text.proofs.Passes.{Passes, passed-front}
 use Rattle.number.specs.declared.digits.Int.the-variants.{Number}
 use Rattle.number.specs.Digits.{isDigit, valueFrom, intOf, intAt}
 use Rattle.number.proofs.Runs.{value-append}
@@ -89,32 +88,21 @@ last-is-digit : (n : ℕ) → isDigit (lastDigit n) ≡ true
 unfolding isDigit lastDigit
 last-is-digit n = rw (le-leb 48 (48 + n % 10) (omega arith), le-leb (48 + n % 10) 57 (omega arith))
 
-front-cons : (ds : List ℕ) (b d : ℕ) → (front isDigit ds ≡ ds → front isDigit (ds ++ (d ∷ [])) ≡ ds ++ (d ∷ [])) → front isDigit (b ∷ ds) ≡ b ∷ ds
-    → front isDigit (b ∷ (ds ++ (d ∷ []))) ≡ b ∷ (ds ++ (d ∷ []))
-front-cons ds b d rest h = go (isDigit b) refl
-  where
-    go : (x : Bool) → isDigit b ≡ x → front isDigit (b ∷ (ds ++ (d ∷ []))) ≡ b ∷ (ds ++ (d ∷ []))
-    go true t =
-        cons-true isDigit b (ds ++ (d ∷ [])) t
-        ∙ ap (λ (l : List ℕ). b ∷ l) (rest (ap (drop 1) (sym (cons-true isDigit b ds t) ∙ h)))
-    go false t = absurd (let z : 0 ≡ suc (length ds) = ap length (sym (cons-false isDigit b ds t) ∙ h) in omega arith)
-
 -- one digit more behind digits
-front-longer : (ds : List ℕ) (d : ℕ) → isDigit d ≡ true → front isDigit ds ≡ ds → front isDigit (ds ++ (d ∷ [])) ≡ ds ++ (d ∷ [])
-unfolding front
-front-longer [] d e h = cons-true isDigit d [] e
-front-longer (b ∷ ds) d e h = front-cons ds b d (front-longer ds d e) h
+passes-more : (ds : List ℕ) (d : ℕ) → Passes isDigit ds → isDigit d ≡ true → Passes isDigit (ds ++ (d ∷ []))
+passes-more [] d h e = (e, tt)
+passes-more (b ∷ ds) d h e = (h .0, passes-more ds d (h .1) e)
 
 -- a numeral is digits, which make its number
 record Back (n : ℕ) : Type 0 where
-  digits : front isDigit (numeral n) ≡ numeral n
+  digits : Passes isDigit (numeral n)
   value : valueFrom 0 (numeral n) ≡ n
 
 back-one : (n : ℕ) → n < 10 → Back n
-unfolding valueFrom lastDigit front
+unfolding valueFrom lastDigit
 back-one n h =
     record {
-      digits = subst (λ (ds : List ℕ). front isDigit ds ≡ ds) (sym (numeral-one n h)) (cons-true isDigit (lastDigit n) [] (last-is-digit n));
+      digits = subst (Passes isDigit) (sym (numeral-one n h)) (last-is-digit n, tt);
       value = ap (valueFrom 0) (numeral-one n h) ∙ (let z : 0 * 10 + (48 + n % 10 - 48) ≡ n = omega arith in z);
     }
 
@@ -122,7 +110,7 @@ back-more : (n : ℕ) → 10 ≤ n → Back (n / 10) → Back n
 unfolding valueFrom lastDigit
 back-more n h b =
     record {
-      digits = subst (λ (ds : List ℕ). front isDigit ds ≡ ds) (sym (numeral-more n h)) (front-longer (numeral (n / 10)) (lastDigit n) (last-is-digit n) (b .digits));
+      digits = subst (Passes isDigit) (sym (numeral-more n h)) (passes-more (numeral (n / 10)) (lastDigit n) (b .digits) (last-is-digit n));
       value =
           ap (valueFrom 0) (numeral-more n h)
           ∙ value-append 0 (numeral (n / 10)) (lastDigit n ∷ [])
@@ -148,7 +136,7 @@ pub numeral-read : (limit n : ℕ) → n ≤ limit → intAt limit (numeral n) 0
 unfolding intAt
 numeral-read limit n h =
     let b = back (suc n) n (omega arith) in
-    ap (intOf limit 0) (b .digits) ∙ run-read limit n (numeral n) (some-digits n) (b .value) h
+    ap (intOf limit 0) (passed-front isDigit (numeral n) (b .digits)) ∙ run-read limit n (numeral n) (some-digits n) (b .value) h
 
 first-of : (ds : List ℕ) (d : ℕ) → 0 < length ds → getD (ds ++ (d ∷ [])) 0 0 ≡ getD ds 0 0
 first-of [] d h = absurd (omega arith)
