@@ -21,7 +21,8 @@ use Rattle.keys.specs.declared.key.KeyAt.the-variants.{Found as KeyFound, Absen
 use Rattle.keys.specs.Keys.{noteMarkAt, keyAt}
 use Rattle.environment.specs.Ranges.{digitRun, amountOf}
 use Rattle.keys.proofs.Moves.{markMoved, note-mark-within, key-within}
-use Rattle.items.specs.Steps.{intEnd, decimalEnd, markEnd, keyEnd}
+use Rattle.items.specs.Steps.{intEnd, decimalEnd, keyEnd}
+use Rattle.items.specs.Written.{markEnd}
 use Rattle.keys.specs.Keys.{accidentalFound}
 
 -- ---- what does not see the move

@@ -21,9 +21,9 @@ use Rattle.environment.specs.Ranges.{digitRun}
 use Rattle.keys.proofs.Moves.{markMoved, note-mark-moved}
 use Rattle.items.specs.declared.item.Item.the-variants as Item
 use Rattle.items.specs.Items.{found, note, dotted, valued, markedNote, noteAt}
-use Rattle.items.specs.Steps.{intEnd, markEnd}
+use Rattle.items.specs.Steps.{intEnd}
 use Rattle.keys.specs.Keys.{accidentalFound}
-use Rattle.items.specs.Written.{foundOf}
+use Rattle.items.specs.Written.{foundOf, markEnd, Inside}
 use Rattle.items.proofs.Ends.{run-moved, accidental-moved, int-end-moved, mark-end-moved, int-ends, mark-ends}
 
 -- ---- the definition without its cases
@@ -117,6 +117,11 @@ module _ (text : List ℕ) (at letter : ℕ) (m : Mark) (behind : ℕ) (n : Int)
   note-plain d =
       found-same letter false accidental-same value-same (omega (arith, end-is))
       ∙ sym (note-is letter (drop (at + 1) text) ∙ dot-absent _ _ _ _ _ (dot-is ∙ d))
+
+  -- both stand where their readers found them
+  pub note-inside : (d : Bool) → Inside text at (Item.Note (record { letter = letter; accidental = m; value = n; dotted = d }))
+  unfolding Inside
+  note-inside d = (r .mark, r .int ∙ ap (intAt valueMost text) (r .marked))
 
   -- the value ends behind the letter and within the text
   pub note-end : (at < end) × (end ≤ length text)

@@ -1,5 +1,6 @@
--- What the steps of the reader of an item answer: where something that was asked for ends, and what a part of the table of beginnings says. Private
--- functions' contracts cite this, and no public one. Assumes nothing.
+-- What the steps of the reader of an item answer: where a number or a key that was asked for ends, and what a part of
+-- the table of beginnings says. Private functions' contracts cite this, and no public one; where an accidental ends
+-- stands in `Written.antt`. Assumes nothing.
 use mathlib.Core.List.{List}
 use Prim.Native.Nat.{ℕ}
 use lib.ListN.{drop}
@@ -8,8 +9,6 @@ use Rattle.number.specs.declared.digits.Int.{Int}
 use Rattle.number.specs.declared.digits.Int.the-variants.{Number, Absent}
 use Rattle.number.specs.declared.decimal.Decimal.{Decimal}
 use Rattle.number.specs.declared.decimal.Decimal.the-variants.{Value, Unreadable, TooLong}
-use Rattle.keys.specs.declared.key.Mark.{Mark}
-use Rattle.keys.specs.declared.key.Mark.the-variants.{With, Without}
 use Rattle.keys.specs.declared.key.KeyAt.{KeyAt}
 use Rattle.keys.specs.declared.key.KeyAt.the-variants.{Found as KeyFound, Absent as NoKey}
 use Rattle.items.specs.Items.{Found, found, unknown, beginnings}
@@ -24,10 +23,6 @@ unfoldable pub decimalEnd : ℕ → Decimal → ℕ
 decimalEnd at (Value x next) = next
 decimalEnd at Unreadable = at
 decimalEnd at TooLong = at
-
-unfoldable pub markEnd : ℕ → Mark → ℕ
-markEnd at (With a next) = next
-markEnd at Without = at
 
 unfoldable pub keyEnd : ℕ → KeyAt → ℕ
 keyEnd at (KeyFound k next) = next

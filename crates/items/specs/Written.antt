@@ -1,10 +1,15 @@
--- What the code keeps of an item, in the terms of `Items.antt`: numbers without their places, and names as parts of the text. Contracts of functions that
--- answer with an item cite this. Assumes nothing.
+-- What the code keeps of an item, in the terms of `Items.antt`: numbers without their places, and names as parts of the
+-- text; then what the places inside it are. Contracts of functions that answer with an item cite this. Assumes nothing.
+use mathlib.Core.Path.{_≡_}
 use mathlib.Core.Bool.{Bool, true, false}
 use mathlib.Core.List.{List}
 use Prim.Native.Nat.{ℕ, _+_, _-_}
 use lib.ListN.{take, drop}
-use Rattle.keys.specs.Keys.{accidentalFound, keyFound}
+use Rattle.number.specs.Digits.{valueMost, countMost, intAt}
+use Rattle.number.specs.Decimal.{decimalAt}
+use Rattle.keys.specs.declared.key.Mark.{Mark}
+use Rattle.keys.specs.declared.key.Mark.the-variants.{With, Without}
+use Rattle.keys.specs.Keys.{noteMarkAt, keyAt, accidentalFound, keyFound}
 use Rattle.environment.specs.Ranges.{digitRun, amountOf}
 use Rattle.items.specs.declared.item.Item.{Item}
 use Rattle.items.specs.declared.item.Item.the-variants as Item
@@ -33,6 +38,31 @@ itemOf text at next Item.Unknown = Items.unknown
 unfoldable pub foundOf : List ℕ → ℕ → Found → Items.Found
 unfolding itemOf
 foundOf text at f = Items.found (itemOf text at (f .next) (f .item)) (f .next - (at + 1))
+
+-- the place after an accidental that was asked for at `at`; where there is none, that place
+unfoldable pub markEnd : ℕ → Mark → ℕ
+markEnd at (With a next) = next
+markEnd at Without = at
+
+-- each number, accidental and key of an item whose first byte stands at `at` is what its reader answers at its place:
+-- "The number reader must also tell where it stopped, and every caller gets that" (T-05)
+unfoldable pub Inside : List ℕ → ℕ → Item → Type 0
+Inside text at (Item.Note n) =
+    (n .accidental ≡ noteMarkAt text (at + 1))
+    × (n .value ≡ intAt valueMost text (markEnd (at + 1) (n .accidental)))
+Inside text at Item.Up = Unit
+Inside text at Item.Down = Unit
+Inside text at Item.Opening = Unit
+Inside text at Item.Cut = Unit
+Inside text at (Item.Closing n) = n ≡ intAt countMost text (at + 1)
+Inside text at (Item.Octave n) = n ≡ intAt valueMost text (at + 1)
+Inside text at (Item.Value n) = n ≡ intAt valueMost text (at + 1)
+Inside text at (Item.Tempo n) = n ≡ intAt valueMost text (at + 1)
+Inside text at (Item.Amplitude d) = d ≡ decimalAt text (at + 1)
+Inside text at (Item.Key k) = k ≡ keyAt text (at + 1)
+Inside text at Item.Instrument = Unit
+Inside text at Item.Call = Unit
+Inside text at Item.Unknown = Unit
 
 -- whether an item is a macro call
 unfoldable pub isCall : Item → Bool

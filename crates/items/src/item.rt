@@ -5,8 +5,8 @@ ghost use mathlib.Core.Path.{_≡_};
 ghost use Prim.Native.Nat.{_+_, _≤_, _<_};
 ghost use lib.ListN.{length, drop, getD};
 ghost use Rattle.items.specs.Items.{isNoteLetter, noteAt, itemAt, itemOn};
-ghost use Rattle.items.specs.Steps.{intEnd, decimalEnd, markEnd, keyEnd, rowsFrom};
-ghost use Rattle.items.specs.Written.{foundOf, isCall};
+ghost use Rattle.items.specs.Steps.{intEnd, decimalEnd, keyEnd, rowsFrom};
+ghost use Rattle.items.specs.Written.{foundOf, markEnd, Inside, isCall};
 use keys::key::KeyAt;
 use keys::key::Mark;
 use keys::key::is_key_letter;
@@ -125,6 +125,7 @@ fn note_at(text: &[u8], at: usize, letter: u8) -> Found
     requires { ⌜ at < length (now text) ⌝ }
     ensures meant { λ r. ⌜ foundOf (now (text .entry)) at r ≡ noteAt letter (drop (at + 1) (now (text .entry))) ⌝ }
     ensures onward { λ r. ⌜ (at < r .next) × (r .next ≤ length (now (text .entry))) ⌝ }
+    ensures inside { λ r. ⌜ Inside (now (text .entry)) at (r .item) ⌝ }
 {
     let from = at + 1;
     let accidental = note_accidental_at(text, from);
@@ -161,6 +162,7 @@ fn other_at(text: &[u8], at: usize, b: u8) -> Found
     requires { ⌜ (at < length (now text)) × (b ≡ getD (now text) at 0) ⌝ }
     ensures meant { λ r. ⌜ foundOf (now (text .entry)) at r ≡ rowsFrom 8 b (drop (at + 1) (now (text .entry))) ⌝ }
     ensures onward { λ r. ⌜ (at < r .next) × (r .next ≤ length (now (text .entry))) ⌝ }
+    ensures inside { λ r. ⌜ Inside (now (text .entry)) at (r .item) ⌝ }
 {
     let from = at + 1;
     if b == 118 {
@@ -205,6 +207,7 @@ fn command_at(text: &[u8], at: usize, b: u8) -> Found
     requires { ⌜ (at < length (now text)) × (b ≡ getD (now text) at 0) ⌝ }
     ensures meant { λ r. ⌜ foundOf (now (text .entry)) at r ≡ rowsFrom 4 b (drop (at + 1) (now (text .entry))) ⌝ }
     ensures onward { λ r. ⌜ (at < r .next) × (r .next ≤ length (now (text .entry))) ⌝ }
+    ensures inside { λ r. ⌜ Inside (now (text .entry)) at (r .item) ⌝ }
 {
     let from = at + 1;
     if b == 93 {
@@ -247,6 +250,7 @@ fn found_at(text: &[u8], at: usize) -> Found
     requires { ⌜ at < length (now text) ⌝ }
     ensures meant { λ r. ⌜ foundOf (now (text .entry)) at r ≡ itemAt (getD (now (text .entry)) at 0) (drop (at + 1) (now (text .entry))) ⌝ }
     ensures onward { λ r. ⌜ (at < r .next) × (r .next ≤ length (now (text .entry))) ⌝ }
+    ensures inside { λ r. ⌜ Inside (now (text .entry)) at (r .item) ⌝ }
 {
     let b = text[at];
     if is_note_letter(b) {
@@ -286,6 +290,7 @@ pub fn item_at(text: &[u8], at: usize) -> Found
     ensures meant { λ r. ⌜ foundOf (now (text .entry)) at r ≡ itemOn (drop at (now (text .entry))) ⌝ }
     ensures onward { λ r. ⌜ (at < length (now (text .entry)) → (at < r .next) × (r .next ≤ length (now (text .entry)))) ⌝ }
     ensures past { λ r. ⌜ (length (now (text .entry)) ≤ at → r .next ≡ at) ⌝ }
+    ensures inside { λ r. ⌜ Inside (now (text .entry)) at (r .item) ⌝ }
 {
     if at >= text.len() {
         return Found {

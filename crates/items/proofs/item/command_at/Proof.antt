@@ -3,7 +3,7 @@ use mathlib.Core.Path.{_∙_}
 use Rattle.number.specs.Digits.{valueMost, countMost}
 use Rattle.items.specs.Items.{closing, octave, value, tempo}
 use Rattle.items.specs.Steps.{rowsFrom}
-use Rattle.items.specs.Written.{foundOf}
+use Rattle.items.specs.Written.{foundOf, Inside}
 use Rattle.items.proofs.Commands.{numbered-found, int-end-of, rows-at, past-runs}
 use borrow.Author.Needs.{needs}
 use Rattle.items.proofs.item.command_at.Statement.{statement}
@@ -19,13 +19,13 @@ int-end-requires : tie.Need-int-end-requires
 int-end-requires c κs = search needs
 
 returns : tie.Need-returns
-unfolding foundOf rowsFrom
+unfolding foundOf rowsFrom Inside
 returns c =
     let s = c .before .before .before .before in
     let a = s .args in
     let e = c .before .eat-int .ensures in (
       numbered-found (a .text .now) (a .at) closing countMost _ _ e (c .int-end .ensures) ∙ rows-at 4 (a .b) 93 _ (c .before .before .if1 .taken),
-      int-end-of (a .text .now) (a .at) _ (s .pre .0) countMost _ e (c .int-end .ensures),
+      (int-end-of (a .text .now) (a .at) _ (s .pre .0) countMost _ e (c .int-end .ensures), e),
     )
 
 eat-int-requires-2 : tie.Need-eat-int-requires-2
@@ -35,13 +35,13 @@ int-end-requires-2 : tie.Need-int-end-requires-2
 int-end-requires-2 c κs = search needs
 
 returns-2 : tie.Need-returns-2
-unfolding foundOf rowsFrom
+unfolding foundOf rowsFrom Inside
 returns-2 c =
     let s = c .before .before .before .before .before in
     let a = s .args in
     let e = c .before .eat-int2 .ensures in (
       numbered-found (a .text .now) (a .at) octave valueMost _ _ e (c .int-end2 .ensures) ∙ rows-at 4 (a .b) 111 _ (c .before .before .if2 .taken),
-      int-end-of (a .text .now) (a .at) _ (s .pre .0) valueMost _ e (c .int-end2 .ensures),
+      (int-end-of (a .text .now) (a .at) _ (s .pre .0) valueMost _ e (c .int-end2 .ensures), e),
     )
 
 eat-int-requires-3 : tie.Need-eat-int-requires-3
@@ -51,13 +51,13 @@ int-end-requires-3 : tie.Need-int-end-requires-3
 int-end-requires-3 c κs = search needs
 
 returns-3 : tie.Need-returns-3
-unfolding foundOf rowsFrom
+unfolding foundOf rowsFrom Inside
 returns-3 c =
     let s = c .before .before .before .before .before .before in
     let a = s .args in
     let e = c .before .eat-int3 .ensures in (
       numbered-found (a .text .now) (a .at) value valueMost _ _ e (c .int-end3 .ensures) ∙ rows-at 4 (a .b) 108 _ (c .before .before .if3 .taken),
-      int-end-of (a .text .now) (a .at) _ (s .pre .0) valueMost _ e (c .int-end3 .ensures),
+      (int-end-of (a .text .now) (a .at) _ (s .pre .0) valueMost _ e (c .int-end3 .ensures), e),
     )
 
 eat-int-requires-4 : tie.Need-eat-int-requires-4
@@ -67,13 +67,13 @@ int-end-requires-4 : tie.Need-int-end-requires-4
 int-end-requires-4 c κs = search needs
 
 returns-4 : tie.Need-returns-4
-unfolding foundOf rowsFrom
+unfolding foundOf rowsFrom Inside
 returns-4 c =
     let s = c .before .before .before .before .before .before .before in
     let a = s .args in
     let e = c .before .eat-int4 .ensures in (
       numbered-found (a .text .now) (a .at) tempo valueMost _ _ e (c .int-end4 .ensures) ∙ rows-at 4 (a .b) 116 _ (c .before .before .if4 .taken),
-      int-end-of (a .text .now) (a .at) _ (s .pre .0) valueMost _ e (c .int-end4 .ensures),
+      (int-end-of (a .text .now) (a .at) _ (s .pre .0) valueMost _ e (c .int-end4 .ensures), e),
     )
 
 other-at-requires : tie.Need-other-at-requires

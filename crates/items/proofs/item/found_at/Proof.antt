@@ -2,7 +2,7 @@
 -- nothing.
 use mathlib.Core.Path.{sym, _∙_}
 use Rattle.items.specs.Items.{up, down, opening, cut, itemAt}
-use Rattle.items.specs.Written.{foundOf}
+use Rattle.items.specs.Written.{foundOf, Inside}
 use Rattle.items.proofs.Commands.{alone-found, alone-end, item-at, at-letter, past-marks}
 use borrow.Author.Needs.{needs}
 use Rattle.items.proofs.item.found_at.Statement.{statement}
@@ -26,32 +26,32 @@ add-next : tie.Need-add-next
 add-next c = search needs
 
 returns-2 : tie.Need-returns-2
-unfolding foundOf itemAt
+unfolding foundOf itemAt Inside
 returns-2 c =
     let s = c .before .before .before .before .before in
     let a = s .args in
-    (alone-found (a .at) up ∙ item-at _ 62 _ (c .if2 .taken), alone-end (a .text .now) (a .at) (s .pre))
+    (alone-found (a .at) up ∙ item-at _ 62 _ (c .if2 .taken), (alone-end (a .text .now) (a .at) (s .pre), tt))
 
 returns-3 : tie.Need-returns-3
-unfolding foundOf itemAt
+unfolding foundOf itemAt Inside
 returns-3 c =
     let s = c .before .before .before .before .before .before in
     let a = s .args in
-    (alone-found (a .at) down ∙ item-at _ 60 _ (c .if3 .taken), alone-end (a .text .now) (a .at) (s .pre))
+    (alone-found (a .at) down ∙ item-at _ 60 _ (c .if3 .taken), (alone-end (a .text .now) (a .at) (s .pre), tt))
 
 returns-4 : tie.Need-returns-4
-unfolding foundOf itemAt
+unfolding foundOf itemAt Inside
 returns-4 c =
     let s = c .before .before .before .before .before .before .before in
     let a = s .args in
-    (alone-found (a .at) opening ∙ item-at _ 91 _ (c .if4 .taken), alone-end (a .text .now) (a .at) (s .pre))
+    (alone-found (a .at) opening ∙ item-at _ 91 _ (c .if4 .taken), (alone-end (a .text .now) (a .at) (s .pre), tt))
 
 returns-5 : tie.Need-returns-5
-unfolding foundOf itemAt
+unfolding foundOf itemAt Inside
 returns-5 c =
     let s = c .before .before .before .before .before .before .before .before in
     let a = s .args in
-    (alone-found (a .at) cut ∙ item-at _ 58 _ (c .if5 .taken), alone-end (a .text .now) (a .at) (s .pre))
+    (alone-found (a .at) cut ∙ item-at _ 58 _ (c .if5 .taken), (alone-end (a .text .now) (a .at) (s .pre), tt))
 
 command-at-requires : tie.Need-command-at-requires
 command-at-requires c κs = search needs

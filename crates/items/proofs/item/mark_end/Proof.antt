@@ -1,7 +1,7 @@
 -- `mark_end` is the definition's two cases. Assumes nothing.
 use mathlib.Core.Path.{sym, ap}
 use borrow.Author.Needs.{needs}
-use Rattle.items.specs.Steps.{markEnd}
+use Rattle.items.specs.Written.{markEnd}
 use Rattle.items.proofs.item.mark_end.Statement.{statement}
 use Rattle.items.proofs.item.mark_end.Tie as tie
 

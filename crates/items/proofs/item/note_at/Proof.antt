@@ -1,8 +1,9 @@
 -- `note_at` reads each part where the one before it ends; the laws of `Notes` say that the text behind the letter gives the same. Assumes nothing.
 use mathlib.Core.Path.{sym, _∙_}
+use mathlib.Core.Bool.{true, false}
 use native.Mathlib.Omega.{arith}
 use Rattle.text.proofs.Starts.{starts-within}
-use Rattle.items.proofs.Notes.{Read, note-dotted, note-plain, note-end}
+use Rattle.items.proofs.Notes.{Read, note-dotted, note-plain, note-end, note-inside}
 use borrow.Author.Needs.{needs}
 use Rattle.items.proofs.item.note_at.Statement.{statement}
 use Rattle.items.proofs.item.note_at.Tie as tie
@@ -48,14 +49,18 @@ returns c =
     let a = i .before .before .before .before .before .args in
     let t = sym (c .before .stands-at .ensures) ∙ c .if1 .taken in
     let e = note-end _ _ (a .letter) _ _ _ _ (read i) in
-    (note-dotted _ _ (a .letter) _ _ _ _ (read i) t, (omega (arith, e .0), omega (arith, starts-within (a .text .now) (i .int-end .result) 46 t)))
+    let w = starts-within (a .text .now) (i .int-end .result) 46 t in (
+      note-dotted _ _ (a .letter) _ _ _ _ (read i) t,
+      ((omega (arith, e .0), omega (arith, w)), note-inside _ _ (a .letter) _ _ _ _ (read i) true),
+    )
 
 returns-2 : tie.Need-returns-2
 returns-2 c =
     let i = c .before .before in
     let a = i .before .before .before .before .before .args in
     let t = sym (c .before .stands-at .ensures) ∙ c .if1 .left in
-    (note-plain _ _ (a .letter) _ _ _ _ (read i) t, note-end _ _ (a .letter) _ _ _ _ (read i))
+    let n = note-inside _ _ (a .letter) _ _ _ _ (read i) false in
+    (note-plain _ _ (a .letter) _ _ _ _ (read i) t, (note-end _ _ (a .letter) _ _ _ _ (read i), n))
 
 pub note-at-spec : {M : Type 1} → statement M
 note-at-spec =
