@@ -8,7 +8,7 @@ use native.Mathlib.Omega.{arith}
 use lib.ListN.{length, take}
 use lib.Ieee.{Float}
 use borrow.Author.Tests.{leb-true, eqb-true}
-use Rattle.sheet.proofs.Basics.{both}
+use Rattle.sheet.proofs.Basics.{false-true, both}
 use Rattle.sheet.specs.Capacities.{loopsMost, nestingMost, notesMost, instrumentsMost}
 use Rattle.sheet.specs.Refusals.{Outcome, going, refused}
 use Rattle.part.specs.declared.state.State.{State}
@@ -113,20 +113,22 @@ module _ (s r : State) (o : Outcome Progress) (fs : List Float) (is ls : List �
         ),
       )
 
--- ---- the three clauses for a line
+-- ---- the four clauses for a line
 
 module _ (book : Book) (line : ℕ) (text : List ℕ) (s q : State) (fs : List Float) (is ls : List ℕ) (fs′ : List Float) (is′ ls′ : List ℕ) where
   abbrev Promised : Type 0
   Promised =
       (q ≡ stateAfter s (partIn book line text s fs is ls))
       × (Held (partIn book line text s fs is ls) fs′ is′ ls′
-      × (isReady s (length fs) (length is) (length ls) (length (book .releases)) ≡ true → q .refusal ≡ 0 → Ready q fs′ is′ ls′))
+      × ((isReady s (length fs) (length is) (length ls) (length (book .releases)) ≡ true → q .refusal ≡ 0 → Ready q fs′ is′ ls′)
+      × (isReady s (length fs) (length is) (length ls) (length (book .releases)) ≡ false
+      → (fs′ ≡ fs) × ((is′ ≡ is) × (ls′ ≡ ls)))))
 
   promised-ready : isReady s (length fs) (length is) (length ls) (length (book .releases)) ≡ true
       → Settled s q (bodyRead book line text (progressOf s fs is ls)) fs′ is′ ls′ → Promised
   promised-ready e h =
       let t = told-as s q _ _ fs′ is′ ls′ (part-ready book line text s fs is ls e) (h .0, h .1 .0) in
-      (t .0, (t .1, λ x. h .1 .1))
+      (t .0, (t .1, (λ x. h .1 .1, λ f. false-true (sym f ∙ e))))
 
   -- from what the reader of bodies has come to, with all nested calls to go, and what is made of that
   pub promised-read : isReady s (length fs) (length is) (length ls) (length (book .releases)) ≡ true
@@ -136,8 +138,9 @@ module _ (book : Book) (line : ℕ) (text : List ℕ) (s q : State) (fs : List F
   unfolding bodyRead
   promised-read e r b h = promised-ready e (h (bodyRead book line text (progressOf s fs is ls)) fs′ is′ ls′ b)
 
-pub promised-unready : (book : Book) (line : ℕ) (text : List ℕ) (s : State) (fs : List Float) (is ls : List ℕ) (fs′ : List Float) (is′ ls′ : List ℕ)
-    → isReady s (length fs) (length is) (length ls) (length (book .releases)) ≡ false → Promised book line text s (refusedAt s 21 line) fs is ls fs′ is′ ls′
-promised-unready book line text s fs is ls fs′ is′ ls′ e =
-    let t = told-as s _ _ _ fs′ is′ ls′ (part-unready book line text s fs is ls e) (told-refused s 21 line fs′ is′ ls′) in
-    (t .0, (t .1, λ x z. absurd (omega (arith, z))))
+pub promised-unready : (book : Book) (line : ℕ) (text : List ℕ) (s : State) (fs : List Float) (is ls : List ℕ)
+    → isReady s (length fs) (length is) (length ls) (length (book .releases)) ≡ false
+    → Promised book line text s (refusedAt s 21 line) fs is ls fs is ls
+promised-unready book line text s fs is ls e =
+    let t = told-as s _ _ _ fs is ls (part-unready book line text s fs is ls e) (told-refused s 21 line fs is ls) in
+    (t .0, (t .1, (λ x z. absurd (omega (arith, z)), λ f. (refl, (refl, refl)))))

@@ -1,7 +1,7 @@
 // A part's line: its body is read on from the part's state and columns.
 
 ghost use mathlib.Core.Path.{_≡_};
-ghost use mathlib.Core.Bool.{true};
+ghost use mathlib.Core.Bool.{true, false};
 ghost use mathlib.Core.List.{List};
 ghost use Prim.Native.Nat.{ℕ};
 ghost use lib.ListN.{length};
@@ -63,7 +63,7 @@ fn settled(st: State, r: State) -> State
 }
 
 // The body of a part's line, read on from a state and its columns: the state afterwards. The tables are those of the macros' names, their bodies and the
-// instruments' names, as places in the source. Where the state is none of a part, 21.
+// instruments' names, as places in the source. Where the state is none of a part, 21, and the columns stay as they are.
 pub fn read_part(
     source: &[u8],
     macros: &[usize],
@@ -81,6 +81,11 @@ pub fn read_part(
     ensures state { λ r. ⌜ r ≡ stateAfter st (partIn (bookIn rate (now (source .entry)) (now (macros .entry)) (now (bodies .entry)) (now (names .entry)) (now (releases .entry))) line (now (text .entry)) st (now (floats .entry)) (now (instruments .entry)) (now (loops .entry))) ⌝ }
     ensures columns { λ _. ⌜ Held (partIn (bookIn rate (now (source .entry)) (now (macros .entry)) (now (bodies .entry)) (now (names .entry)) (now (releases .entry))) line (now (text .entry)) st (now (floats .entry)) (now (instruments .entry)) (now (loops .entry))) (now (floats .exit)) (now (instruments .exit)) (now (loops .exit)) ⌝ }
     ensures ready { λ r. ⌜ (isReady st (length (now (floats .entry))) (length (now (instruments .entry))) (length (now (loops .entry))) (length (now (releases .entry))) ≡ true → r .refusal ≡ 0 → Ready r (now (floats .exit)) (now (instruments .exit)) (now (loops .exit))) ⌝ }
+    ensures kept { λ r.
+        ⌜ (isReady st (length (now (floats .entry))) (length (now (instruments .entry))) (length (now (loops .entry)))
+        (length (now (releases .entry))) ≡ false
+        → (now (floats .exit) ≡ now (floats .entry))
+        × ((now (instruments .exit) ≡ now (instruments .entry)) × (now (loops .exit) ≡ now (loops .entry)))) ⌝ }
 {
     if !is_ready(
         st,

@@ -94,11 +94,12 @@ returns c =
     let a = s .args in
     let p = s .pre in
     let l = e .read-part .last .1 .1 .1 .1 .1 .1 in
-    let k = e .read-part .kept .1 .1 .1 .1 .1 .1 in (
+    let k = e .read-part .kept .1 .1 .1 .1 .1 .1 in
+    let h = e .read-part .ensures in (
       body-came (bookIn (a .rate) (a .source .now) (a .macros .now) (a .bodies .now) (a .names .now) (a .releases .now)) (a .line) (a .text .now) (a .st) (e .read-part .result)
           (a .k) (a .floats .now) (a .bytes .now) (a .loops .now) (l .0) (l .1 .0) (l .1 .1 .0)
           (p .0) (p .1 .0) (p .1 .1 .0) (p .1 .1 .1 .0) (p .1 .1 .1 .1 .0) (p .1 .1 .1 .1 .1) (k .0) (k .1 .0) (k .1 .1 .0)
-          (e .read-part .ensures),
+          (h .0, (h .1 .0, h .1 .1 .0)),
       body-places (a .k) (a .loops .now) (l .1 .1 .0) (p .0) (p .1 .1 .1 .0) (k .1 .1 .0),
     )
 

@@ -10,7 +10,7 @@ is-ready-requires : tie.Need-is-ready-requires
 is-ready-requires c κs = search needs
 
 returns : tie.Need-returns
-returns c = promised-unready _ _ _ _ _ _ _ _ _ _ (sym (c .before .is-ready .ensures) ∙ not-true _ (c .if1 .taken))
+returns c = promised-unready _ _ _ _ _ _ _ (sym (c .before .is-ready .ensures) ∙ not-true _ (c .if1 .taken))
 
 body-requires : tie.Need-body-requires
 body-requires c κs = ready-so _ _ _ _ _ (sym (c .before .before .before .before .is-ready .ensures) ∙ not-false _ (c .before .before .before .if1 .left))
