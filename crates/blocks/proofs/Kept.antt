@@ -1,5 +1,5 @@
 -- Operator lines in their two columns: there are as many as are asked for, only the front of a column tells the first
--- lines, and a line put behind them is one more. Assumes nothing.
+-- lines, and a line put behind them is one more and leaves what stands behind it. Assumes nothing.
 use mathlib.Core.Path.{_≡_, refl, sym, ap, ap₂, _∙_}
 use mathlib.Core.List.{List, [], _∷_, _++_, append-assoc}
 use Prim.Native.Nat.{ℕ, zero, suc, _+_, _*_, _≤_, _<_}
@@ -24,6 +24,11 @@ module _ {A : Type 0} (l : List A) (at : ℕ) (vs : List A) (h : at + length vs 
 
   stored-rest : drop at (sets l at vs) ≡ vs ++ drop (at + length vs) l
   stored-rest = ap (drop at) stored ∙ drop-at (take at l) _ at (length-take-le at l (omega arith))
+
+  -- and behind that is what stood there
+  stored-behind : drop (at + length vs) (sets l at vs) ≡ drop (at + length vs) l
+  stored-behind =
+      sym (drop-drop (length vs) at (sets l at vs)) ∙ ap (drop (length vs)) stored-rest ∙ drop-at vs _ (length vs) refl
 
 -- ---- lines
 
@@ -95,3 +100,20 @@ one-more n fs ss tabs o h p q =
     ∙ ap₂ (λ (xs ys : List Line). xs ++ ys)
     (lines-front n (sets fs (6 * n) vs) fs (sets ss (2 * n) ws) ss (stored-front fs (6 * n) vs (omega arith)) (stored-front ss (2 * n) ws (omega arith)))
     (ap₂ (linesIn 1) (stored-rest fs (6 * n) vs (omega arith)) (stored-rest ss (2 * n) ws (omega arith)))
+
+pub behind-same : (n : ℕ) (fs : List Float) (ss : List ℕ) (tabs : ℕ) (o : Operator)
+    → n < 32 → 192 ≤ length fs → 64 ≤ length ss
+    → (drop (6 * (n + 1)) (withSix fs (6 * n) o) ≡ drop (6 * (n + 1)) fs)
+    × (drop (2 * (n + 1)) (withTwo ss (2 * n) tabs (o .feedback)) ≡ drop (2 * (n + 1)) ss)
+behind-same n fs ss tabs o h p q =
+    let vs = o .amplitude ∷ o .freqratio ∷ o .attack ∷ o .decay ∷ o .sustain ∷ o .release ∷ [] in
+    let ws = tabs ∷ o .feedback ∷ [] in
+    let e : 6 * (n + 1) ≡ 6 * n + length vs = omega arith in
+    let f : 2 * (n + 1) ≡ 2 * n + length ws = omega arith in (
+      ap₂ (λ (k : ℕ) (l : List Float). drop k l) e (six-sets fs (6 * n) o)
+          ∙ stored-behind fs (6 * n) vs (omega arith)
+          ∙ ap (λ (k : ℕ). drop k fs) (sym e),
+      ap₂ (λ (k : ℕ) (l : List ℕ). drop k l) f (two-sets ss (2 * n) tabs (o .feedback))
+          ∙ stored-behind ss (2 * n) ws (omega arith)
+          ∙ ap (λ (k : ℕ). drop k ss) (sym f),
+    )

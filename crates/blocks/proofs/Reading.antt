@@ -1,15 +1,16 @@
--- Reading the operator lines below a header: what the lines from the walk's place on come to, with those that the columns keep in front, is what all
--- of them come to. The reader's loop keeps this, and each of its exits cites one law. Assumes nothing.
+-- Reading the operator lines below a header: whatever lines stand from the walk's place on, what they come to, with those
+-- that the columns keep in front, is what all of them come to. The reader's loop keeps this, and each of its exits cites
+-- one law. Assumes nothing.
 use mathlib.Core.Path.{_≡_, refl, sym, ap, ap₂, subst, _∙_}
 use mathlib.Core.Bool.{true, false}
 use mathlib.Core.List.{List, [], _∷_, _++_, append-nil}
 use mathlib.Core.Option.{Option, none, some}
-use Prim.Native.Nat.{ℕ, zero, suc, _+_, _-_, _≤_, _<_}
+use Prim.Native.Nat.{ℕ, zero, suc, _+_, _*_, _-_, _≤_, _<_}
 use native.Mathlib.Nat.{add-zero}
 use native.Mathlib.Numerals.{add-one}
 use native.Mathlib.Omega.{arith}
-use lib.ListN.{length, take, drop, drop-of-length-le}
-use lib.Seq.{append-snoc, drop-drop}
+use lib.ListN.{length, take, drop, drop-of-length-le, take-append-drop}
+use lib.Seq.{append-snoc, drop-drop, take-add}
 use lib.Ieee.{Float}
 use borrow.Author.Tests.{le-leb, lt-leb}
 use Rattle.lines.specs.Lines.{linesOf, lineWidth, behindLines}
@@ -31,7 +32,7 @@ use Rattle.strict.specs.declared.mode.Mode.{Mode}
 use Rattle.blocks.specs.declared.block.Block.{Block}
 use Rattle.operators.specs.OperatorLines.{ends, operatorLines, indentOf, indented, readable, numbersRead, present, feedbackRead, operatorRead, operatorsRead}
 use Rattle.operators.specs.Answers.{indentAbove}
-use Rattle.blocks.specs.Blocks.{linesIn, hasRoom, blockRead, blockOutcome}
+use Rattle.blocks.specs.Blocks.{linesIn, hasRoom, blockRead, firstRead, blockOutcome}
 use Rattle.operators.proofs.Indents.{Fits, one-fits}
 
 -- ---- a line's refusal is not 0
@@ -96,6 +97,20 @@ unfolding _>>=_
 one-behind xs ys o (going os) e = ap going (sym (append-snoc xs o os) ∙ ap (λ (zs : List Line). zs ++ os) (sym e))
 one-behind xs ys o (refused n l) e = refl
 
+-- a list's front with its next element, and then others
+front-next : {A : Type 0} (n : ℕ) (l : List A) (x : A) (xs later : List A) → drop n l ≡ x ∷ xs
+    → take (n + 1) l ++ later ≡ take n l ++ (x ∷ later)
+front-next n l x xs later e =
+    ap (λ (ys : List _). ys ++ later) (take-add n 1 l ∙ ap (λ (ys : List _). take n l ++ take 1 ys) e)
+    ∙ append-snoc (take n l) x later
+
+-- what is left behind a place is also left behind a later one
+drop-on : {A : Type 0} (k n : ℕ) (l m : List A) → drop (k * n) l ≡ drop (k * n) m
+    → drop (k * (n + 1)) l ≡ drop (k * (n + 1)) m
+drop-on k n l m e =
+    let z : k * n + k ≡ k * (n + 1) = omega arith in
+    subst (λ (j : ℕ). drop j l ≡ drop j m) z (sym (drop-drop k (k * n) l) ∙ ap (drop k) e ∙ drop-drop k (k * n) m)
+
 -- ---- the walk
 
 -- at `place` so many lines from `at` on are read, the last of them with the indent `before`, and stand in the columns, which were fs₀ and ss₀
@@ -109,9 +124,13 @@ pub record Reading (mode : Mode) (source : List ℕ) (at : ℕ) (fs₀ : List Fl
   pub inside : at ≤ length source → place ≤ length source
   pub behind : place ≡ behindLines count source at
   pub lines : linesOf (drop place source) ≡ drop count (linesOf (drop at source))
-  pub means : (line : ℕ)
-      → operatorsRead mode none line 0 (operatorLines (linesOf (drop at source)))
-      ≡ _>>=_ (operatorsRead mode (indentAbove count before) (line + count) count (operatorLines (linesOf (drop place source)))) (λ os. going (linesIn count fs ss ++ os))
+  pub ahead : drop count (operatorLines (linesOf (drop at source))) ≡ operatorLines (linesOf (drop place source))
+  pub means : (line : ℕ) (later : List (List ℕ))
+      → operatorsRead mode none line 0 (take count (operatorLines (linesOf (drop at source))) ++ later)
+      ≡ _>>=_ (operatorsRead mode (indentAbove count before) (line + count) count later)
+      (λ os. going (linesIn count fs ss ++ os))
+  pub numbers : drop (6 * count) fs ≡ drop (6 * count) fs₀
+  pub shape : drop (2 * count) ss ≡ drop (2 * count) ss₀
 
 pub reading-start : (mode : Mode) (source : List ℕ) (at : ℕ) (fs : List Float) (ss : List ℕ) → 192 ≤ length fs → 64 ≤ length ss → Reading mode source at fs ss fs ss at 0 0
 unfolding indentAbove linesIn behindLines
@@ -126,9 +145,12 @@ reading-start mode source at fs ss h k =
       onward = omega arith;
       inside = λ i. i;
       lines = refl;
-      means = λ line.
+      ahead = refl;
+      means = λ line later.
           sym (then-same _)
-          ∙ ap (λ (n : ℕ). _>>=_ (operatorsRead mode none n 0 (operatorLines (linesOf (drop at source)))) (λ os. going os)) (sym (add-zero line));
+          ∙ ap (λ (n : ℕ). _>>=_ (operatorsRead mode none n 0 later) (λ os. going os)) (sym (add-zero line));
+      numbers = refl;
+      shape = refl;
     }
 
 -- what the reader promises of an answer
@@ -138,14 +160,23 @@ Answered mode source at fs₀ ss₀ fs ss b =
     × ((b .next ≡ behindLines (b .count) source at)
     × ((b .refusal ≡ 0 → linesOf (drop (b .next) source) ≡ drop (b .count) (linesOf (drop at source)))
     × (((at ≤ b .next) × (at ≤ length source → b .next ≤ length source))
-    × ((b .count ≤ 32) × (hasRoom (length fs₀) (length ss₀) ≡ false → (fs ≡ fs₀) × (ss ≡ ss₀))))))
+    × ((b .count ≤ 32)
+    × ((hasRoom (length fs₀) (length ss₀) ≡ false → (fs ≡ fs₀) × (ss ≡ ss₀))
+    × (((line : ℕ) → firstRead mode line (b .count) (drop at source) ≡ going (linesIn (b .count) fs ss))
+    × ((drop (6 * b .count) fs ≡ drop (6 * b .count) fs₀) × (drop (2 * b .count) ss ≡ drop (2 * b .count) ss₀))))))))
 
 module _ (mode : Mode) (source : List ℕ) (at : ℕ) (fs : List Float) (ss : List ℕ) where
   answered-narrow : hasRoom (length fs) (length ss) ≡ false → Answered mode source at fs ss fs ss (record { count = 0; next = at; refusal = 21 })
-  unfolding blockOutcome blockRead behindLines
+  unfolding blockOutcome blockRead firstRead operatorsRead linesIn behindLines
   answered-narrow e = (
     λ line. ap (refused 21) (add-zero line) ∙ sym (rw (e, blockRead)),
-    (refl, ((λ z. absurd (omega (arith, z))), ((omega arith, λ i. i), (omega arith, λ k. (refl, refl))))),
+    (
+      refl,
+      (
+        (λ z. absurd (omega (arith, z))),
+        ((omega arith, λ i. i), (omega arith, ((λ k. (refl, refl)), (λ line. refl, (refl, refl))))),
+      ),
+    ),
   )
 
   pub narrow-numbers : length fs < 192 → Answered mode source at fs ss fs ss (record { count = 0; next = at; refusal = 21 })
@@ -171,7 +202,34 @@ module _ (mode : Mode) (source : List ℕ) (at : ℕ) (fs₀ : List Float) (ss�
       → blockRead mode line (drop at source) (length fs₀) (length ss₀)
       ≡ _>>=_ (operatorsRead mode (indentAbove count before) (line + count) count (operatorLines (linesOf (drop place source)))) (λ os. going (linesIn count fs ss ++ os))
   unfolding blockRead
-  block-means line = rw (room, blockRead) (r .means line)
+  block-means line =
+      let ops = operatorLines (linesOf (drop at source)) in
+      rw (room, blockRead)
+      (ap (operatorsRead mode none line 0) (sym (take-append-drop count ops))
+      ∙ r .means line (drop count ops)
+      ∙ ap
+      (λ (ls : List (List ℕ)).
+      _>>=_ (operatorsRead mode (indentAbove count before) (line + count) count ls)
+      (λ os. going (linesIn count fs ss ++ os)))
+      (r .ahead))
+
+  -- those that are read stand in the columns, and behind them is what stood there
+  front-read : (line : ℕ) → firstRead mode line count (drop at source) ≡ going (linesIn count fs ss)
+  unfolding firstRead operatorsRead
+  front-read line =
+      ap (operatorsRead mode none line 0) (sym (append-nil (take count (operatorLines (linesOf (drop at source))))))
+      ∙ r .means line []
+      ∙ then-going [] _ _ refl
+      ∙ ap going (append-nil (linesIn count fs ss))
+
+  abbrev Stands : Type 0
+  Stands =
+      (hasRoom (length fs₀) (length ss₀) ≡ false → (fs ≡ fs₀) × (ss ≡ ss₀))
+      × (((line : ℕ) → firstRead mode line count (drop at source) ≡ going (linesIn count fs ss))
+      × ((drop (6 * count) fs ≡ drop (6 * count) fs₀) × (drop (2 * count) ss ≡ drop (2 * count) ss₀)))
+
+  stands : Stands
+  stands = (roomy, (front-read, (r .numbers, r .shape)))
 
   -- no operator line follows
   answered-done : operatorLines (linesOf (drop place source)) ≡ [] → Answered mode source at fs₀ ss₀ fs ss (record { count = count; next = place; refusal = 0 })
@@ -182,7 +240,7 @@ module _ (mode : Mode) (source : List ℕ) (at : ℕ) (fs₀ : List Float) (ss�
         (block-means line
         ∙ then-going [] _ _ (ap (operatorsRead mode (indentAbove count before) (line + count) count) e)
         ∙ ap going (append-nil (linesIn count fs ss))),
-    (r .behind, ((λ z. r .lines), ((r .onward, r .inside), (r .few, roomy)))),
+    (r .behind, ((λ z. r .lines), ((r .onward, r .inside), (r .few, stands)))),
   )
 
   pub answered-end : length source ≤ place → Answered mode source at fs₀ ss₀ fs ss (record { count = count; next = place; refusal = 0 })
@@ -215,7 +273,7 @@ module _ (mode : Mode) (source : List ℕ) (at : ℕ) (fs₀ : List Float) (ss�
             (block-means line
             ∙ then-refused (suc n) (line + count) _ _
             (ap (operatorsRead mode (indentAbove count before) (line + count) count) here ∙ then-refused (suc n) (line + count) _ _ (sym (q (line + count))))),
-        (r .behind, ((λ z. absurd (omega (arith, z))), ((r .onward, r .inside), (r .few, roomy)))),
+        (r .behind, ((λ z. absurd (omega (arith, z))), ((r .onward, r .inside), (r .few, stands)))),
       )
 
       module _ (tabs : ℕ) (o : Operator)
@@ -231,9 +289,11 @@ module _ (mode : Mode) (source : List ℕ) (at : ℕ) (fs₀ : List Float) (ss�
 
         pub reading-more : (gs : List Float) (ts : List ℕ) → length gs ≡ length fs → length ts ≡ length ss
             → linesIn (count + 1) gs ts ≡ linesIn count fs ss ++ (record { indent = tabs; op = o } ∷ [])
+            → (drop (6 * (count + 1)) gs ≡ drop (6 * (count + 1)) fs)
+            × (drop (2 * (count + 1)) ts ≡ drop (2 * (count + 1)) ss)
             → Reading mode source at fs₀ ss₀ gs ts next (count + 1) tabs
         unfolding operatorsRead behindLines
-        reading-more gs ts a b k =
+        reading-more gs ts a b k d =
             record {
               wide = r .wide;
               high = r .high;
@@ -249,11 +309,18 @@ module _ (mode : Mode) (source : List ℕ) (at : ℕ) (fs₀ : List Float) (ss�
                   ap (drop 1) (sym below)
                   ∙ ap (drop 1) (r .lines)
                   ∙ drop-drop 1 count (linesOf (drop at source));
-              means = λ line.
-                  r .means line
+              ahead =
+                  sym (drop-drop 1 count (operatorLines (linesOf (drop at source)))) ∙ ap (drop 1) (r .ahead ∙ here);
+              means = λ line later.
+                  ap (operatorsRead mode none line 0) (front-next count _ text _ later (r .ahead ∙ here))
+                  ∙ r .means line (text ∷ later)
                   ∙ ap (λ (m : Outcome (List Line)). _>>=_ m (λ os. going (linesIn count fs ss ++ os)))
-                  (ap (operatorsRead mode (indentAbove count before) (line + count) count) here ∙ then-going _ _ _ (sym (q (line + count))))
+                  (then-going _ _ _ (sym (q (line + count))))
                   ∙ one-behind (linesIn count fs ss) (linesIn (count + 1) gs ts) (record { indent = tabs; op = o }) _ k
-                  ∙ ap₂ (λ (p : Option ℕ) (n : ℕ). _>>=_ (operatorsRead mode p n (count + 1) (operatorLines (linesOf (drop next source)))) (λ os. going (linesIn (count + 1) gs ts ++ os)))
+                  ∙ ap₂
+                  (λ (p : Option ℕ) (n : ℕ).
+                  _>>=_ (operatorsRead mode p n (count + 1) later) (λ os. going (linesIn (count + 1) gs ts ++ os)))
                   next-above (let w : line + count + 1 ≡ line + (count + 1) = omega arith in w);
+              numbers = d .0 ∙ drop-on 6 count fs fs₀ (r .numbers);
+              shape = d .1 ∙ drop-on 2 count ss ss₀ (r .shape);
             }

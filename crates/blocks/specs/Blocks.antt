@@ -5,7 +5,7 @@ use mathlib.Core.List.{List, [], _∷_}
 use mathlib.Core.Option.{none}
 use Prim.Native.Nat.{ℕ, zero, suc, _+_, _*_}
 use lib.Dec.{leb}
-use lib.ListN.{drop, getD}
+use lib.ListN.{take, drop, getD}
 use lib.Ieee.{Float, nan}
 use Rattle.lines.specs.Lines.{linesOf}
 use Rattle.tree.specs.Lines.{Line}
@@ -44,6 +44,12 @@ unfolding linesOf operatorLines operatorsRead hasRoom
 blockRead mode line below numbers shape =
     elim (hasRoom numbers shape)
     [ true ↦ operatorsRead mode none line 0 (operatorLines (linesOf below)) | false ↦ refused 21 line ]
+
+-- what comes of the first n operator lines of a text, whatever comes of the next: the reader states "the final contents
+-- of each slice lent to it, over all arguments, refusals too"
+unfoldable pub firstRead : Mode → ℕ → ℕ → List ℕ → Outcome (List Line)
+unfolding linesOf operatorLines operatorsRead
+firstRead mode line n below = operatorsRead mode none line 0 (take n (operatorLines (linesOf below)))
 
 -- what an answer and the columns tell: a refusal is given at the line behind those that were read
 unfoldable pub blockOutcome : ℕ → Block → List Float → List ℕ → Outcome (List Line)

@@ -3,11 +3,12 @@
 ghost use mathlib.Core.Path.{_≡_};
 ghost use mathlib.Core.Bool.{false};
 ghost use mathlib.Core.List.{[], _∷_, _++_};
-ghost use Prim.Native.Nat.{ℕ, _+_, _≤_, _<_};
+ghost use Prim.Native.Nat.{ℕ, _+_, _*_, _≤_, _<_};
 ghost use lib.ListN.{length, drop};
 ghost use Rattle.lines.specs.Lines.{linesOf, behindLines};
+ghost use Rattle.sheet.specs.Refusals.{going};
 ghost use Rattle.operators.specs.OperatorLines.{ends};
-ghost use Rattle.blocks.specs.Blocks.{linesIn, hasRoom, blockRead, blockOutcome};
+ghost use Rattle.blocks.specs.Blocks.{linesIn, hasRoom, blockRead, firstRead, blockOutcome};
 use lines::lines::line_at;
 use operator::operator::Operator;
 use operators::line::OperatorLine;
@@ -44,7 +45,10 @@ fn is_end(l: &[u8]) -> bool
 // An operator line in its place in the columns: so many stand before it.
 fn put(numbers: &mut [f32], shape: &mut [usize], n: usize, tabs: usize, op: Operator)
     requires { ⌜ (n < 32) × ((192 ≤ length (now numbers)) × (64 ≤ length (now shape))) ⌝ }
-    ensures { λ r. ⌜ linesIn (n + 1) (now (numbers .exit)) (now (shape .exit)) ≡ linesIn n (now (numbers .entry)) (now (shape .entry)) ++ (record { indent = tabs; op = op } ∷ []) ⌝ }
+    ensures lines { λ r. ⌜ linesIn (n + 1) (now (numbers .exit)) (now (shape .exit)) ≡ linesIn n (now (numbers .entry)) (now (shape .entry)) ++ (record { indent = tabs; op = op } ∷ []) ⌝ }
+    ensures rest { λ r.
+        ⌜ (drop (6 * (n + 1)) (now (numbers .exit)) ≡ drop (6 * (n + 1)) (now (numbers .entry)))
+        × (drop (2 * (n + 1)) (now (shape .exit)) ≡ drop (2 * (n + 1)) (now (shape .entry))) ⌝ }
 {
     let at = 6 * n;
     numbers[at] = op.amplitude;
@@ -58,8 +62,8 @@ fn put(numbers: &mut [f32], shape: &mut [usize], n: usize, tabs: usize, op: Oper
     shape[place + 1] = op.feedback as usize;
 }
 
-// The operator lines from place `at` of a source on. Where the columns have no room for 32 operators, 21, and they are
-// left as they are.
+// The operator lines from place `at` of a source on. Those that were read stand in the columns, before a refusal too,
+// and behind them the columns are as they were. Where they have no room for 32 operators, 21, and nothing is read.
 pub fn read_block(
     source: &[u8],
     at: usize,
@@ -75,6 +79,12 @@ pub fn read_block(
     ensures kept { λ r.
         ⌜ (hasRoom (length (now (numbers .entry))) (length (now (shape .entry))) ≡ false
         → (now (numbers .exit) ≡ now (numbers .entry)) × (now (shape .exit) ≡ now (shape .entry))) ⌝ }
+    ensures front { λ r.
+        ⌜ ((line : ℕ) → firstRead mode line (r .count) (drop at (now (source .entry)))
+        ≡ going (linesIn (r .count) (now (numbers .exit)) (now (shape .exit)))) ⌝ }
+    ensures rest { λ r.
+        ⌜ (drop (6 * r .count) (now (numbers .exit)) ≡ drop (6 * r .count) (now (numbers .entry)))
+        × (drop (2 * r .count) (now (shape .exit)) ≡ drop (2 * r .count) (now (shape .entry))) ⌝ }
 {
     let mut place = at;
     let mut count = 0;

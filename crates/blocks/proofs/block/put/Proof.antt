@@ -6,7 +6,7 @@ use lib.ListN.{length-set}
 use mir.Syntax.{w64}
 use mir.Val.{Fits}
 use borrow.Author.Needs.{needs}
-use Rattle.blocks.proofs.Kept.{one-more}
+use Rattle.blocks.proofs.Kept.{one-more, behind-same}
 use Rattle.blocks.proofs.block.put.Statement.{statement}
 use Rattle.blocks.proofs.block.put.Tie as tie
 
@@ -111,7 +111,12 @@ same-length-2 : tie.Need-same-length-2
 same-length-2 c = simp length-set
 
 returns : tie.Need-returns
-returns c = let a = c .before .args in one-more (a .n) (a .numbers .now) (a .shape .now) (a .tabs) (a .op) (c .before .pre .0) (c .before .pre .1 .0) (c .before .pre .1 .1)
+returns c =
+    let a = c .before .args in
+    let p = c .before .pre in (
+      one-more (a .n) (a .numbers .now) (a .shape .now) (a .tabs) (a .op) (p .0) (p .1 .0) (p .1 .1),
+      behind-same (a .n) (a .numbers .now) (a .shape .now) (a .tabs) (a .op) (p .0) (p .1 .0) (p .1 .1),
+    )
 
 pub put-spec : {M : Type 1} → statement M
 put-spec =

@@ -114,7 +114,8 @@ loop-again c =
     let s = c .before .before .before .before .before .before .before .before .before .before .before in
     let p = c .before .before .before .before .put in
     reading-more _ _ _ _ _ _ _ _ _ _ (s .before .before .before .before .before .loop .inv) _ _ (lined (s .before .before .before)) (runs s) _ _
-    (λ line. sym (ap (outcomeOf line) (c .before .before .before .before .before .before .before .before .read2 .given .1)) ∙ c .before .before .before .before .before .before .before .before .before .before .operator .ensures line) _ _ (p .kept .0) (p .kept .1 .0) (p .ensures)
+    (λ line. sym (ap (outcomeOf line) (c .before .before .before .before .before .before .before .before .read2 .given .1)) ∙ c .before .before .before .before .before .before .before .before .before .before .operator .ensures line) _ _ (p .kept .0) (p .kept .1 .0)
+    (p .ensures .0) (p .ensures .1)
 
 pub read-block-spec : {M : Type 1} → statement M
 read-block-spec =
