@@ -119,7 +119,8 @@ module _ (text : List ℕ) (at letter : ℕ) (m : Mark) (behind : ℕ) (n : Int)
       ∙ sym (note-is letter (drop (at + 1) text) ∙ dot-absent _ _ _ _ _ (dot-is ∙ d))
 
   -- both stand where their readers found them
-  pub note-inside : (d : Bool) → Inside text at (Item.Note (record { letter = letter; accidental = m; value = n; dotted = d }))
+  pub note-inside : (d : Bool)
+      → Inside text at (Item.Note (record { letter = letter; accidental = m; value = n; dotted = d }))
   unfolding Inside
   note-inside d = (r .mark, r .int ∙ ap (intAt valueMost text) (r .marked))
 

@@ -120,7 +120,8 @@ module _ (book : Book) (line : ℕ) (text : List ℕ) (s q : State) (fs : List F
   Promised =
       (q ≡ stateAfter s (partIn book line text s fs is ls))
       × (Held (partIn book line text s fs is ls) fs′ is′ ls′
-      × ((isReady s (length fs) (length is) (length ls) (length (book .releases)) ≡ true → q .refusal ≡ 0 → Ready q fs′ is′ ls′)
+      × ((isReady s (length fs) (length is) (length ls) (length (book .releases)) ≡ true
+      → q .refusal ≡ 0 → Ready q fs′ is′ ls′)
       × (isReady s (length fs) (length is) (length ls) (length (book .releases)) ≡ false
       → (fs′ ≡ fs) × ((is′ ≡ is) × (ls′ ≡ ls)))))
 
