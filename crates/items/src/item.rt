@@ -285,7 +285,8 @@ fn found_at(text: &[u8], at: usize) -> Found
 }
 
 // The item at place `at` of a text, which is no blank and no `;`, and the place after it. Past the text's end it is unknown, and
-// nothing is passed over. In `c4 e` the item at 0 is a note of value 4, and ends at 2.
+// nothing is passed over. Its numbers, accidentals and keys have the places where their readers stopped. In `c4 e` the
+// item at 0 is a note of value 4, and ends at 2.
 pub fn item_at(text: &[u8], at: usize) -> Found
     ensures meant { λ r. ⌜ foundOf (now (text .entry)) at r ≡ itemOn (drop at (now (text .entry))) ⌝ }
     ensures onward { λ r. ⌜ (at < length (now (text .entry)) → (at < r .next) × (r .next ≤ length (now (text .entry)))) ⌝ }
