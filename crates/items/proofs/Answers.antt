@@ -17,7 +17,7 @@ use Rattle.items.specs.declared.item.Item.{Item}
 use Rattle.items.specs.declared.item.Item.the-variants as Item
 use Rattle.items.specs.declared.item.Found.{Found}
 use Rattle.items.specs.Items as Items
-use Rattle.items.specs.Written.{itemOf, foundOf, markEnd, Inside}
+use Rattle.items.specs.Written.{itemOf, foundOf, markEnd, Inside, FoundAt}
 
 -- ---- the item
 
@@ -66,14 +66,7 @@ module _ (text : List ℕ) (at : ℕ) where
 
 -- ---- the answer
 
--- what `item_at` promises of an answer, clause by clause
-pub record Promised (text : List ℕ) (at : ℕ) (r : Found) : Type 0 where
-  pub meant : foundOf text at r ≡ Items.itemOn (drop at text)
-  pub onward : at < length text → (at < r .next) × (r .next ≤ length text)
-  pub past : length text ≤ at → r .next ≡ at
-  pub inside : Inside text at (r .item)
-
-module _ (text : List ℕ) (at : ℕ) (r q : Found) (h : Promised text at r) (k : Promised text at q) where
+module _ (text : List ℕ) (at : ℕ) (r q : Found) (h : FoundAt text at r) (k : FoundAt text at q) where
   told : foundOf text at r ≡ foundOf text at q
   told = h .meant ∙ sym (k .meant)
 

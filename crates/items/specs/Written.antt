@@ -3,8 +3,8 @@
 use mathlib.Core.Path.{_≡_}
 use mathlib.Core.Bool.{Bool, true, false}
 use mathlib.Core.List.{List}
-use Prim.Native.Nat.{ℕ, _+_, _-_}
-use lib.ListN.{take, drop}
+use Prim.Native.Nat.{ℕ, _+_, _-_, _≤_, _<_}
+use lib.ListN.{length, take, drop}
 use Rattle.number.specs.Digits.{valueMost, countMost, intAt}
 use Rattle.number.specs.Decimal.{decimalAt}
 use Rattle.keys.specs.declared.key.Mark.{Mark}
@@ -63,6 +63,14 @@ Inside text at (Item.Key k) = k ≡ keyAt text (at + 1)
 Inside text at Item.Instrument = Unit
 Inside text at Item.Call = Unit
 Inside text at Item.Unknown = Unit
+
+-- all that is promised of the item that is found at a place: it is the definition's, it ends behind its first byte and
+-- within the text, past the text's end nothing is passed over, and the places inside it are its readers'
+pub record FoundAt (text : List ℕ) (at : ℕ) (f : Found) : Type 0 where
+  pub meant : foundOf text at f ≡ Items.itemOn (drop at text)
+  pub onward : at < length text → (at < f .next) × (f .next ≤ length text)
+  pub past : length text ≤ at → f .next ≡ at
+  pub inside : Inside text at (f .item)
 
 -- whether an item is a macro call
 unfoldable pub isCall : Item → Bool

@@ -4,9 +4,9 @@
 ghost use mathlib.Core.Path.{_≡_};
 ghost use Prim.Native.Nat.{_+_, _≤_, _<_};
 ghost use lib.ListN.{length, drop, getD};
-ghost use Rattle.items.specs.Items.{isNoteLetter, noteAt, itemAt, itemOn};
+ghost use Rattle.items.specs.Items.{isNoteLetter, noteAt, itemAt};
 ghost use Rattle.items.specs.Steps.{intEnd, decimalEnd, keyEnd, rowsFrom};
-ghost use Rattle.items.specs.Written.{foundOf, markEnd, Inside, isCall};
+ghost use Rattle.items.specs.Written.{foundOf, markEnd, Inside, FoundAt, isCall};
 use keys::key::KeyAt;
 use keys::key::Mark;
 use keys::key::is_key_letter;
@@ -288,10 +288,7 @@ fn found_at(text: &[u8], at: usize) -> Found
 // nothing is passed over. Its numbers, accidentals and keys have the places where their readers stopped. In `c4 e` the
 // item at 0 is a note of value 4, and ends at 2.
 pub fn item_at(text: &[u8], at: usize) -> Found
-    ensures meant { λ r. ⌜ foundOf (now (text .entry)) at r ≡ itemOn (drop at (now (text .entry))) ⌝ }
-    ensures onward { λ r. ⌜ (at < length (now (text .entry)) → (at < r .next) × (r .next ≤ length (now (text .entry)))) ⌝ }
-    ensures past { λ r. ⌜ (length (now (text .entry)) ≤ at → r .next ≡ at) ⌝ }
-    ensures inside { λ r. ⌜ Inside (now (text .entry)) at (r .item) ⌝ }
+    ensures { λ r. ⌜ FoundAt (now (text .entry)) at r ⌝ }
 {
     if at >= text.len() {
         return Found {

@@ -197,7 +197,7 @@ body-item-requires : (t : ℕ) → body-lts.Need-item-requires (
   item-below t,
   item.Post,
 ) (body-at t) body.Post body-Inv-loop body-μ-loop
-body-item-requires t c κs = let m : 3 * (c .before .before .before .before .before .before .before .before .before .before .before .before .before .before .before .before .before .before .args .nest) + 1 < t = omega (arith, c .before .before .before .before .before .before .before .before .before .before .before .before .before .before .before .before .before .before .pre .0) in let w = c .before .before .before .item-at .ensures .1 .0 (c .before .before .before .before .before .before .if1 .left) in (m, (c .before .before .before .before .before .before .before .before .loop .inv .ready, (c .before .before .before .before .before .before .before .before .before .before .before .before .before .before .before .before .before .before .pre .1 .1, (omega (arith, w .0), w .1))))
+body-item-requires t c κs = let m : 3 * (c .before .before .before .before .before .before .before .before .before .before .before .before .before .before .before .before .before .before .args .nest) + 1 < t = omega (arith, c .before .before .before .before .before .before .before .before .before .before .before .before .before .before .before .before .before .before .pre .0) in let w = c .before .before .before .item-at .ensures .onward (c .before .before .before .before .before .before .if1 .left) in (m, (c .before .before .before .before .before .before .before .before .loop .inv .ready, (c .before .before .before .before .before .before .before .before .before .before .before .before .before .before .before .before .before .before .pre .1 .1, (omega (arith, w .0), w .1))))
 
 body-same-length-7 : (t : ℕ) → body-lts.Need-same-length-7 (
   blanks-end-reads.Asked,
@@ -237,7 +237,7 @@ body-returns-3 : (t : ℕ) → body-lts.Need-returns-3 (
   item-below t,
   item.Post,
 ) (body-at t) body.Post body-Inv-loop body-μ-loop
-body-returns-3 t c = run-refused _ _ _ _ _ _ _ _ _ _ _ _ _ (c .before .before .before .before .before .before .before .before .before .before .before .before .before .before .before .before .loop .inv) _ (c .before .before .before .before .before .before .before .before .before .before .before .item-at .result .next) (items-found _ _ _ (c .before .before .before .before .before .before .before .before .before .before .before .before .before .before .before .blanks-end .ensures) (c .before .before .before .before .before .before .before .before .before .before .before .before .before .before .if1 .left) (c .before .before .before .before .before .before .before .before .before .before .before .before .if2 .left) _ (c .before .before .before .before .before .before .before .before .before .before .before .item-at .ensures .0 ∙ item-there _ _ (c .before .before .before .before .before .before .before .before .before .before .before .before .before .before .if1 .left)) (c .before .before .before .before .before .before .before .before .before .before .before .item-at .ensures .1 .0 (c .before .before .before .before .before .before .before .before .before .before .before .before .before .before .if1 .left) .0)) _ _ _ _ (c .before .before .before .before .before .before .before .item .ensures) (c .if3 .taken)
+body-returns-3 t c = run-refused _ _ _ _ _ _ _ _ _ _ _ _ _ (c .before .before .before .before .before .before .before .before .before .before .before .before .before .before .before .before .loop .inv) _ (c .before .before .before .before .before .before .before .before .before .before .before .item-at .result .next) (items-found _ _ _ (c .before .before .before .before .before .before .before .before .before .before .before .before .before .before .before .blanks-end .ensures) (c .before .before .before .before .before .before .before .before .before .before .before .before .before .before .if1 .left) (c .before .before .before .before .before .before .before .before .before .before .before .before .if2 .left) _ (c .before .before .before .before .before .before .before .before .before .before .before .item-at .ensures .meant ∙ item-there _ _ (c .before .before .before .before .before .before .before .before .before .before .before .before .before .before .if1 .left)) (c .before .before .before .before .before .before .before .before .before .before .before .item-at .ensures .onward (c .before .before .before .before .before .before .before .before .before .before .before .before .before .before .if1 .left) .0)) _ _ _ _ (c .before .before .before .before .before .before .before .item .ensures) (c .if3 .taken)
 
 body-loop-less : (t : ℕ) → body-lts.Need-loop-less (
   blanks-end-reads.Asked,
@@ -247,7 +247,7 @@ body-loop-less : (t : ℕ) → body-lts.Need-loop-less (
   item-below t,
   item.Post,
 ) (body-at t) body.Post body-Inv-loop body-μ-loop
-body-loop-less t c = let w = c .before .before .before .before .before .before .before .before .before .before .before .item-at .ensures .1 .0 (c .before .before .before .before .before .before .before .before .before .before .before .before .before .before .if1 .left) in omega (arith, w .0, w .1, c .before .before .before .before .before .before .before .before .before .before .before .before .before .before .before .blanks-end .ensures, c .before .before .before .before .before .before .before .before .before .before .before .before .before .before .if1 .left)
+body-loop-less t c = let w = c .before .before .before .before .before .before .before .before .before .before .before .item-at .ensures .onward (c .before .before .before .before .before .before .before .before .before .before .before .before .before .before .if1 .left) in omega (arith, w .0, w .1, c .before .before .before .before .before .before .before .before .before .before .before .before .before .before .before .blanks-end .ensures, c .before .before .before .before .before .before .before .before .before .before .before .before .before .before .if1 .left)
 
 body-loop-again : (t : ℕ) → body-lts.Need-loop-again (
   blanks-end-reads.Asked,
@@ -257,7 +257,7 @@ body-loop-again : (t : ℕ) → body-lts.Need-loop-again (
   item-below t,
   item.Post,
 ) (body-at t) body.Post body-Inv-loop body-μ-loop
-body-loop-again t c = run-more _ _ _ _ _ _ _ _ _ _ _ _ _ (c .before .before .before .before .before .before .before .before .before .before .before .before .before .before .before .before .loop .inv) _ _ (items-found _ _ _ (c .before .before .before .before .before .before .before .before .before .before .before .before .before .before .before .blanks-end .ensures) (c .before .before .before .before .before .before .before .before .before .before .before .before .before .before .if1 .left) (c .before .before .before .before .before .before .before .before .before .before .before .before .if2 .left) _ (c .before .before .before .before .before .before .before .before .before .before .before .item-at .ensures .0 ∙ item-there _ _ (c .before .before .before .before .before .before .before .before .before .before .before .before .before .before .if1 .left)) (c .before .before .before .before .before .before .before .before .before .before .before .item-at .ensures .1 .0 (c .before .before .before .before .before .before .before .before .before .before .before .before .before .before .if1 .left) .0)) _ _ _ _ (c .before .before .before .before .before .before .before .item .ensures) (c .if3 .left)
+body-loop-again t c = run-more _ _ _ _ _ _ _ _ _ _ _ _ _ (c .before .before .before .before .before .before .before .before .before .before .before .before .before .before .before .before .loop .inv) _ _ (items-found _ _ _ (c .before .before .before .before .before .before .before .before .before .before .before .before .before .before .before .blanks-end .ensures) (c .before .before .before .before .before .before .before .before .before .before .before .before .before .before .if1 .left) (c .before .before .before .before .before .before .before .before .before .before .before .before .if2 .left) _ (c .before .before .before .before .before .before .before .before .before .before .before .item-at .ensures .meant ∙ item-there _ _ (c .before .before .before .before .before .before .before .before .before .before .before .before .before .before .if1 .left)) (c .before .before .before .before .before .before .before .before .before .before .before .item-at .ensures .onward (c .before .before .before .before .before .before .before .before .before .before .before .before .before .before .if1 .left) .0)) _ _ _ _ (c .before .before .before .before .before .before .before .item .ensures) (c .if3 .left)
 
 call-place-named-requires : (t : ℕ) → call-lts.Need-place-named-requires (
   place-named-reads.Asked,
