@@ -1,4 +1,3 @@
-pub mod Answers
 pub mod Demand3
 pub mod Durations
 pub mod Handed

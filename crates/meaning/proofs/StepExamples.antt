@@ -7,7 +7,7 @@ use Prim.Native.String.{String}
 use lib.Ieee.{round, add, sub, mul, div, lt, ofBits, ofInt}
 use Rattle.sheet.specs.Refusals.{Outcome, going, _>>=_, _>>_, refuse_on_unless_, refuse_on_if_, refuse_on_without_}
 use Rattle.strict.specs.declared.mode.Mode.the-variants.{Plain}
-use Rattle.meaning.proofs.Answers.{answer}
+use Rattle.meaning.specs.Answers.{answer}
 
 -- the steps of an accepted sheet
 abbrev stepsOf : String → Outcome ℕ

@@ -1,3 +1,4 @@
+pub mod Answers
 pub mod Before
 pub mod Layout
 pub mod Parts
