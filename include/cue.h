@@ -25,7 +25,7 @@
  * (length 0) is not read or written through its pointer, and NULL there is tried by the tests; a slice of Rust, which the pointer and the length
  * become, is not to be NULL, so rather pass the address of any byte.
  * The thread's floating-point state is the one in which every C program starts: rounding to nearest, all exceptions masked, and no small number flushed to
- * zero (of MXCSR the rounding bits, the masks, FTZ and DAZ; fesetround(FE_TONEAREST), no feenableexcept). In another state the answer is another, or a
+ * zero (of MXCSR the rounding bits, the masks, FTZ and DAZ; fesetround(FE_TONEAREST), no feenableexcept). In another state the answer may be another, or a
  * call raises SIGFPE.
  * A call takes some 830,000 bytes of stack for a text that is accepted and 1,000,000 for one that is refused, whatever its length, and nothing of the heap;
  * a thread that calls has CUE_STACK bytes left.
