@@ -108,7 +108,8 @@ fn set_aside(becomes: u32) -> Slot {
     Slot { command }
 }
 
-// Fields 6 to 8 and 11: an instrument's release, how many commands it counts, a feedback, and a first command that sets aside.
+// Fields 6 to 8 and 11: an instrument's release, how many commands it counts, a feedback, and a first command that sets
+// aside.
 fn instrument_with(by: Instrument, field: u32, becomes: u32) -> Instrument {
     let mut release = by.release;
     let mut count = by.count;

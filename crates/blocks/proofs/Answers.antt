@@ -17,6 +17,7 @@ use Rattle.strict.specs.declared.mode.Mode.{Mode}
 use Rattle.blocks.specs.declared.block.Block.{Block}
 use Rattle.blocks.specs.Blocks.{linesIn, blockRead, firstRead, blockOutcome}
 use Rattle.blocks.proofs.Kept.{lines-length}
+use Rattle.blocks.proofs.Reading.{Answered}
 
 -- ---- the answer
 
@@ -104,6 +105,22 @@ pub record Promised (mode : Mode) (source : List ℕ) (at : ℕ) (fs₀ : List F
   pub shape : drop (2 * r .count) ss ≡ drop (2 * r .count) ss₀
   pub wide : length fs ≡ length fs₀
   pub high : length ss ≡ length ss₀
+
+-- these are among the clauses of its contract, as its proof has them
+pub promised : (mode : Mode) (source : List ℕ) (at : ℕ) (fs₀ : List Float) (ss₀ : List ℕ) (r : Block)
+    (fs : List Float) (ss : List ℕ) → Answered mode source at fs₀ ss₀ fs ss r
+    → length fs ≡ length fs₀ → length ss ≡ length ss₀ → Promised mode source at fs₀ ss₀ r fs ss
+promised mode source at fs₀ ss₀ r fs ss a wide high =
+    let behind = a .1 .1 .1 .1 .1 in
+    record {
+      read = a .0;
+      place = a .1 .0;
+      front = behind .1 .0;
+      numbers = behind .1 .1 .0;
+      shape = behind .1 .1 .1;
+      wide = wide;
+      high = high;
+    }
 
 module _ (mode : Mode) (source : List ℕ) (at : ℕ) (fs₀ : List Float) (ss₀ : List ℕ) (r q : Block)
     (fs gs : List Float) (ss ts : List ℕ)

@@ -154,7 +154,7 @@ reading-start mode source at fs ss h k =
     }
 
 -- what the reader promises of an answer
-abbrev Answered : Mode → List ℕ → ℕ → List Float → List ℕ → List Float → List ℕ → Block → Type 0
+abbrev pub Answered : Mode → List ℕ → ℕ → List Float → List ℕ → List Float → List ℕ → Block → Type 0
 Answered mode source at fs₀ ss₀ fs ss b =
     ((line : ℕ) → blockOutcome line b fs ss ≡ blockRead mode line (drop at source) (length fs₀) (length ss₀))
     × ((b .next ≡ behindLines (b .count) source at)

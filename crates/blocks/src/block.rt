@@ -1,4 +1,5 @@
-// The operator lines below a header (the Rust's `instrument::parse`): those up to the first that is none, each kept in two columns.
+// The operator lines below a header (the Rust's `instrument::parse`): those up to the first that is none, each kept in
+// two columns.
 
 ghost use mathlib.Core.Path.{_≡_};
 ghost use mathlib.Core.Bool.{false};
@@ -45,7 +46,9 @@ fn is_end(l: &[u8]) -> bool
 // An operator line in its place in the columns: so many stand before it.
 fn put(numbers: &mut [f32], shape: &mut [usize], n: usize, tabs: usize, op: Operator)
     requires { ⌜ (n < 32) × ((192 ≤ length (now numbers)) × (64 ≤ length (now shape))) ⌝ }
-    ensures lines { λ r. ⌜ linesIn (n + 1) (now (numbers .exit)) (now (shape .exit)) ≡ linesIn n (now (numbers .entry)) (now (shape .entry)) ++ (record { indent = tabs; op = op } ∷ []) ⌝ }
+    ensures lines { λ r.
+        ⌜ linesIn (n + 1) (now (numbers .exit)) (now (shape .exit))
+        ≡ linesIn n (now (numbers .entry)) (now (shape .entry)) ++ (record { indent = tabs; op = op } ∷ []) ⌝ }
     ensures rest { λ r.
         ⌜ (drop (6 * (n + 1)) (now (numbers .exit)) ≡ drop (6 * (n + 1)) (now (numbers .entry)))
         × (drop (2 * (n + 1)) (now (shape .exit)) ≡ drop (2 * (n + 1)) (now (shape .entry))) ⌝ }

@@ -25,7 +25,7 @@ use Rattle.engine.proofs.Files.{written-count}
 use Rattle.engine.proofs.Counted.{next-samples, next-header-there}
 use Rattle.engine.proofs.HandedOn.{file-passing}
 use Rattle.system.specs.declared.output.Output.{Output}
-use Rattle.system.specs.Moving as System
+use Rattle.system.specs.Moving.{Advanced}
 use Rattle.cue.specs.Handing.{Takes, Next, Moved, Handed, none, more, written}
 use Rattle.cue.specs.declared.handing.Handing.{Handing}
 
@@ -111,7 +111,7 @@ left-less whole n reached out later t m l h = rw t (go (later .out .taking) refl
 -- ---- what is handed on
 
 -- an output that takes bytes, and what becomes of it
-pub moved-on : (out : Handing) (n before after : ℕ) (r : Output) → Takes out before → System.Moved (out .out) n r before after → Moved out n (record { out = r }) after
+pub moved-on : (out : Handing) (n before after : ℕ) (r : Output) → Takes out before → Advanced (out .out) n r before after → Moved out n (record { out = r }) after
 moved-on out n before after r t m =
     record { further = λ e. m .further e .0; stays = λ e. m .stays e .0; last = go (r .taking) refl }
   where

@@ -98,9 +98,15 @@ fn hand_file(
     later
 }
 
-// Hands the whole answer to a source in a mode, with the RIFF size of a name, on: where the output takes all bytes, they are those of the answer,
-// each once and in order.
-pub fn answer(mode: Mode, size: Size, source: &[u8], out: Handing, reached: &mut usize) -> Handing
+// Hands the whole answer to a source in a mode, with the RIFF size of a name, on: where the output takes all that is
+// handed to it here, that is the answer, each byte once and in order.
+pub(crate) fn answer(
+    mode: Mode,
+    size: Size,
+    source: &[u8],
+    out: Handing,
+    reached: &mut usize,
+) -> Handing
     requires { ⌜ Fresh out (now reached) ⌝ }
     ensures { λ r. ⌜ Whole (answerOf mode size (now (source .entry))) r ⌝ }
 {

@@ -1,5 +1,5 @@
-// The answer on its way to standard output. No other module can make or change a `Handing`, so that one at a place is had only by handing on all
-// that comes before it.
+// The answer on its way to standard output. Elsewhere a `Handing` can be made at its start alone and not be changed, so
+// that one at a later place is had only by handing on all that comes before it.
 
 ghost use mathlib.Core.Path.{_≡_};
 ghost use mathlib.Core.Bool.{true};
@@ -39,9 +39,9 @@ impl Handing {
         out.is_taking()
     }
 
-    // Hands the next piece of the answer on; nothing else in the program does. A `Handing` can be copied, and `reached` holds how far the program has
-    // come, so that an older copy cannot hand its piece on again.
-    pub fn hand(
+    // Hands the next piece of the answer on. A `Handing` can be copied; where one `reached` is lent to all, it holds
+    // how far the program has come, and an older copy cannot hand its piece on again. That there is one is seen by eye.
+    pub(crate) fn hand(
         self,
         mode: Mode,
         size: Size,

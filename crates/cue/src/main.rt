@@ -1,6 +1,7 @@
-// The program `cue`: it reads a cue sheet from standard input, strictly where it is asked to, and writes its WAV file to standard output, with the old
-// RIFF size where it is asked to, or one line that says why the sheet is refused. What a text means, and every byte of the file, is promised by the crates
-// below; `answer` hands their answer on, each byte once and in order. Here stand the lines that no contract can speak of.
+// The program `cue`: it reads a cue sheet from standard input, strictly where it is asked to, and writes its WAV file
+// to standard output, with the old RIFF size where it is asked to, or one line that says why the sheet is refused. What
+// a text means, and every byte of the file, is promised by the crates below, and `answer` hands that on. That it is
+// handed on once, and answers to what was read, no contract can say: tools/held.txt holds the code of this crate.
 
 mod answer;
 mod handing;
@@ -26,8 +27,8 @@ fn respond(mode: Mode, size: Size, source: &[u8]) {
     answer(mode, size, source, Handing::start(), &mut reached);
 }
 
-// Reads standard input to its end, or to one byte more than a source may have, and hands the answer on. Where it cannot be read to there, nothing is
-// handed on: half a sheet is no sheet.
+// Reads standard input to its end, or to one byte more than a source may have, and hands the answer on. Where it cannot
+// be read to there, nothing is handed on: half a sheet is no sheet.
 fn run(mode: Mode, size: Size) {
     let mut bytes = source_buffer();
     let read = read_first(&mut bytes);

@@ -55,7 +55,8 @@ loudness line a = do
   refuse 8 on line if (lt x plusZero || lt one x)
   going x
 
--- "`k` and `#key` take any run of letters a to g, empty or repeating, then `+`, `-` or `=`"; "key without accidental" is 9
+-- "`k` and `#key` take any run of letters a to g, empty or repeating, then `+`, `-` or `=`"; "key without accidental"
+-- is 9
 unfoldable pub keyTaken : ℕ → Option Key → Outcome Key
 keyTaken line k = refuse 9 on line without k
 

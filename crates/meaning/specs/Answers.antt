@@ -1,5 +1,5 @@
--- What a reader of a sheet asks first: the notes of its parts, the commands of its instruments behind the default one, its length and its steps, or
--- the refusal. Worked examples are stated in these terms. Assumes nothing.
+-- What a reader of a sheet asks first: the notes of its parts, the commands of its instruments behind the default one,
+-- its length and its steps, or the refusal. Worked examples are stated in these terms. Assumes nothing.
 use mathlib.Core.List.{List, [], _∷_, map}
 use Prim.Native.Nat.{ℕ}
 use Prim.Native.String.{String}

@@ -1,10 +1,10 @@
--- The starred sheets of document 01 in one table, each with its answer. A row asks what a text is read as, which bytes its file has, or
--- which number a sample is; `told` says what the definitions give. Assumes nothing.
-use mathlib.Core.List.{List, [], _∷_, _++_, map}
+-- The starred sheets of document 01 in one table, each with its answer. A row asks what a text is read as, which bytes
+-- its file has, or which number a sample is; `told` says what the definitions give. Assumes nothing.
+use mathlib.Core.List.{List, [], _∷_, _++_}
 use Prim.Native.Nat.{ℕ}
 use Prim.Native.String.{String}
 use lib.IntN.{ℤ, pos, negsuc}
-use lib.Ieee.{Float, nan, binary32, round, add, sub, mul, div, lt, ofBits, ofInt}
+use lib.Ieee.{Float, nan, binary32, ofBits}
 use Rattle.ieee.specs.Constants.{plusZero, one, minusOne}
 use Rattle.text.specs.Quoted.{bytes}
 use Rattle.form.specs.declared.size.Size.the-variants.{Published}
@@ -12,13 +12,14 @@ use Rattle.form.specs.Sample.{sample16}
 use Rattle.instrument.specs.declared.machine.Command.{Command}
 use Rattle.instrument.specs.declared.machine.Command.the-variants as Command
 use Rattle.sheet.specs.declared.note.Note.{Note}
-use Rattle.sheet.specs.Refusals.{Outcome, going, refused, _>>=_, _>>_, refuse_on_unless_, refuse_on_if_, refuse_on_without_}
+use Rattle.sheet.specs.Refusals.{Outcome, going, refused}
 use Rattle.strict.specs.declared.mode.Mode.the-variants.{Plain}
 use Rattle.meaning.specs.Layout.{readingOf}
 use Rattle.meaning.specs.Answers.{Answer, answer}
 use Rattle.engine.specs.Stream.{fileOf}
 
--- a note of 0.6 seconds, a quarter at tempo 100, on the default instrument: its amplitude and its frequency by their bits
+-- a note of 0.6 seconds, a quarter at tempo 100, on the default instrument: its amplitude and its frequency by their
+-- bits
 abbrev pub quarter : ℕ → ℕ → Note
 quarter amplitude frequency =
     record {
@@ -46,7 +47,15 @@ plays notes samples steps = going (record { notes = notes ∷ []; commands = [];
 abbrev pub op : ℕ → Command
 op a =
     Command.Operator
-    (record { amplitude = ofBits binary32 a; freqratio = one; attack = plusZero; decay = plusZero; sustain = one; release = plusZero; feedback = 0 })
+    (record {
+      amplitude = ofBits binary32 a;
+      freqratio = one;
+      attack = plusZero;
+      decay = plusZero;
+      sustain = one;
+      release = plusZero;
+      feedback = 0;
+    })
 
 -- an accepted sheet of one empty part and one instrument
 abbrev pub silent : List Command → Outcome Answer

@@ -6,9 +6,9 @@ use native.Mathlib.Omega.{arith}
 use lib.ListN.{length, drop, length-drop}
 use lib.Seq.{length-take-le}
 use borrow.Rule.Slice.PartMut.{midOf, putMid, same-len-mid}
-use Rattle.system.specs.declared.input.Got.{Got}
-use Rattle.system.specs.declared.input.Got.the-variants as Got
-use Rattle.system.specs.Counts.{GotWithin}
+use Rattle.system.specs.declared.input.Input.{Input}
+use Rattle.system.specs.declared.input.Input.the-variants as Input
+use Rattle.system.specs.Counts.{Within}
 
 module _ (done : ℕ) (bytes last : List ℕ) (kept : length last ≡ length (midOf done (length bytes - done) bytes)) where
   pub filled-long : length (putMid done (length bytes - done) bytes last) ≡ length bytes
@@ -20,5 +20,5 @@ module _ (done : ℕ) (bytes last : List ℕ) (kept : length last ≡ length (mi
       ∙ length-take-le (length bytes - done) (drop done bytes) (omega (arith, length-drop done bytes))
 
   -- what was read behind the first bytes lies in the buffer
-  pub read-within : {r : Got} (n : ℕ) → r ≡ Got.Bytes n → GotWithin r last → done ≤ length bytes → done + n ≤ length bytes
-  read-within n e w h = omega (arith, subst (λ (g : Got). GotWithin g last) e w .0, rest-long)
+  pub read-within : {r : Input} (n : ℕ) → r ≡ Input.Read n → Within r last → done ≤ length bytes → done + n ≤ length bytes
+  read-within n e w h = omega (arith, subst (λ (i : Input). Within i last) e w .0, rest-long)

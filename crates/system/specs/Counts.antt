@@ -5,8 +5,6 @@ use Prim.Native.Nat.{ℕ, _≤_}
 use lib.ListN.{length, take}
 use Rattle.system.specs.declared.input.Input.{Input}
 use Rattle.system.specs.declared.input.Input.the-variants as Input
-use Rattle.system.specs.declared.input.Got.{Got}
-use Rattle.system.specs.declared.input.Got.the-variants as Got
 
 -- n counts bytes at the start of xs; the second part follows from the first, and both are what `&buf[..n]` asks
 abbrev pub Counts : ℕ → List ℕ → Type 0
@@ -16,7 +14,3 @@ Counts n xs = (n ≤ length xs) × (n ≡ length (take n xs))
 abbrev pub Within : Input → List ℕ → Type 0
 Within (Input.Read n) bytes = Counts n bytes
 Within Input.Failed bytes = Unit
-
-abbrev pub GotWithin : Got → List ℕ → Type 0
-GotWithin (Got.Bytes n) bytes = Counts n bytes
-GotWithin Got.Nothing bytes = Unit

@@ -1,16 +1,11 @@
-// Standard input: its first bytes. A read that fails is not the end of the text, and half a text is never taken for a whole one.
+// Standard input: its first bytes. A read that fails is not the end of the text, and half a text is never taken for a
+// whole one.
 
-ghost use Rattle.system.specs.Counts.{Within, GotWithin};
+ghost use Rattle.system.specs.Counts.{Within};
 use libc::EINTR;
 use libc::STDIN_FILENO;
 
-// What one read gave: so many bytes, 0 at the end of the input, or nothing, as it failed.
-enum Got {
-    Bytes(usize),
-    Nothing,
-}
-
-// What stands in a buffer: the first bytes of the input, so many of them, or nothing that means anything, as reading failed.
+// What stands at a buffer's start: so many bytes that were read, or nothing that means anything, as reading failed.
 pub enum Input {
     Read(usize),
     Failed,
@@ -19,25 +14,26 @@ pub enum Input {
 // How often an interrupted call is tried again: every function has to end, and nobody interrupts so often.
 pub(crate) const TRIES: u32 = 4294967295;
 
-// One read to the start of a buffer, tried again where a signal interrupts it.
-fn read_some(bytes: &mut [u8]) -> Got
-    ensures { λ r. ⌜ GotWithin r (now (bytes .exit)) ⌝ }
+// One read to the start of a buffer, of no byte at the end of the input, tried again where a signal interrupts it.
+fn read_some(bytes: &mut [u8]) -> Input
+    ensures { λ r. ⌜ Within r (now (bytes .exit)) ⌝ }
 {
     let mut tries = TRIES;
     while tries > 0 {
         let got = libc::read(STDIN_FILENO, bytes);
         if got >= 0 {
-            return Got::Bytes(io::count(got, bytes));
+            return Input::Read(io::count(got, bytes));
         }
         if os::errno() != EINTR {
-            return Got::Nothing;
+            return Input::Failed;
         }
         tries -= 1;
     }
-    Got::Nothing
+    Input::Failed
 }
 
-// Reads standard input until the buffer is full or the input ends. Where reading fails, one line to standard error says why.
+// Reads standard input until the buffer is full or the input ends. Where reading fails, one line to standard error says
+// why.
 pub fn read_first(bytes: &mut [u8]) -> Input
     ensures { λ r. ⌜ Within r (now (bytes .exit)) ⌝ }
 {
@@ -45,13 +41,13 @@ pub fn read_first(bytes: &mut [u8]) -> Input
     while done < bytes.len() {
         let got = read_some(&mut bytes[done..]);
         match got {
-            Got::Bytes(n) => {
+            Input::Read(n) => {
                 if n == 0 {
                     return Input::Read(done);
                 }
                 done += n;
             }
-            Got::Nothing => {
+            Input::Failed => {
                 os::fail(b"standard input");
                 return Input::Failed;
             }

@@ -1,11 +1,11 @@
-// Standard output, which takes an answer in order, and standard error, which takes a line. No other crate or module can make or change an
-// `Output`, so that one at a place is had only by handing on all that comes before it.
+// Standard output, which takes an answer in order, and standard error, which takes a line. Elsewhere an `Output` can be
+// made at its start alone and not be changed, so that one at a later place is had only by handing on all before it.
 
 ghost use mathlib.Core.Path.{_≡_};
 ghost use mathlib.Core.Bool.{true};
 ghost use lib.ListN.{length};
 ghost use Rattle.system.specs.Counts.{Counts};
-ghost use Rattle.system.specs.Moving.{Moved};
+ghost use Rattle.system.specs.Moving.{Advanced};
 use crate::input::TRIES;
 use libc::EINTR;
 use libc::STDERR_FILENO;
@@ -75,11 +75,11 @@ impl Output {
         self.taking
     }
 
-    // Hands a part on to standard output, and says how far that brings the output, or that it takes no more; then one line to standard error says
-    // why the system did not take it. An `Output` can be copied, and `reached` holds how far the program has come, so that an older copy
-    // hands nothing on.
+    // Hands a part on to standard output, and says how far that brings the output, or that it takes no more; then one
+    // line to standard error says why the system did not take it. An `Output` can be copied; where one `reached` is
+    // lent to all, it holds how far the program has come, and an older copy hands nothing on.
     pub fn hand(self, part: &[u8], reached: &mut usize) -> Output
-        ensures { λ r. ⌜ Moved self (length (now (part .entry))) r (now (reached .entry)) (now (reached .exit)) ⌝ }
+        ensures { λ r. ⌜ Advanced self (length (now (part .entry))) r (now (reached .entry)) (now (reached .exit)) ⌝ }
     {
         let at = self.at;
         let stopped = Output { at, taking: false };
