@@ -2,6 +2,8 @@
 // and the WAV writers on it. What each answers goes to standard output with its whole buffer, so that untouched places are seen too.
 // tools/compare/sound holds that against the given Rust.
 
+#![tactic(auto)]
+
 mod answer;
 mod buffers;
 mod damage;

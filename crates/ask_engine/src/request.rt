@@ -5,7 +5,7 @@ ghost use Rattle.std.specs.Prelude.{◌≤◌, length};
 use fields::word::word;
 use lines::names::least;
 
-#[derive(Drop)]
+#[derive(Clone, Copy)]
 pub struct Request {
     // How many bytes of text follow.
     pub text: u32,

@@ -2,6 +2,8 @@
 // for its value at a time or for a stretch of a note's samples, and the answers go to standard output.
 // tools/compare/instrument asks the given Rust the same and compares.
 
+#![tactic(auto)]
+
 mod answer;
 mod build;
 mod record;
@@ -12,7 +14,7 @@ use instrument::machine::Instrument;
 use libc::STDIN_FILENO;
 
 // The instrument after a block of records, and whether the input may have more.
-#[derive(Drop)]
+#[derive(Clone, Copy)]
 struct Turn {
     held: Instrument,
     more: bool,

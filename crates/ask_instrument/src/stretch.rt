@@ -8,7 +8,7 @@ use instrument::machine::Instrument;
 
 // What a record asks for. The slice's length is in field 7; field 6 says how many of its elements are
 // added to, or how many stretches there are.
-#[derive(Drop)]
+#[derive(Clone, Copy)]
 struct Asked {
     amplitude: f32,
     f: f32,

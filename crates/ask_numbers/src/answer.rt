@@ -14,7 +14,7 @@ use number::digits::{Int, eat_int};
 use tone::time::{Length, sec_to_len};
 
 // Tags: 0 no such kind, 1 a value, 2 no number, 3 too long, 4 not a number, 5 negative, 6 too many.
-#[derive(Drop)]
+#[derive(Clone, Copy)]
 pub struct Answer {
     pub tag: u64,
     pub value: u64,

@@ -1,6 +1,8 @@
 // Answers requests for numbers: every 32 bytes of standard input are one request, and each gets 16
 // bytes on standard output. tools/compare/numbers asks the given Rust the same and compares.
 
+#![tactic(auto)]
+
 mod answer;
 mod block;
 mod request;

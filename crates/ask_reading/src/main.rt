@@ -1,6 +1,8 @@
 // Has the proved reader read the sheets of standard input, one request after the other, and writes to standard output what each is
 // read as. tools/compare/sheets holds that against the model of document 01 and the given Rust.
 
+#![tactic(auto)]
+
 mod answer;
 mod instruments;
 mod parts;

@@ -9,7 +9,7 @@ use form::size::size_of;
 use wave::file::{Written, write_file, write_header, write_samples};
 
 // The refusal, 0 for none, and how many bytes were written; for a window, how many samples.
-#[derive(Drop)]
+#[derive(Clone, Copy)]
 pub struct Answer {
     pub refusal: u64,
     pub count: u64,

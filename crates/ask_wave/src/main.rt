@@ -2,6 +2,8 @@
 // output what each answers and its whole buffer, so that untouched bytes are seen too. tools/compare/wave
 // holds that against the given Rust.
 
+#![tactic(auto)]
+
 mod answer;
 mod floats;
 mod number;

@@ -10,7 +10,7 @@ use fields::word::word;
 // Kind 0 asks for the file of the samples, 1 for the samples at a place of the buffer, any other for the
 // header alone. The buffer has `room` bytes. `place` is the place, or the number of the RIFF size; `count` is how
 // many samples follow, or the header's number of samples.
-#[derive(Drop)]
+#[derive(Clone, Copy)]
 pub struct Request {
     pub kind: u32,
     pub room: u32,

@@ -14,7 +14,7 @@ use strict::mode::Mode;
 use text::blanks::blanks_end;
 
 // How many operator lines were read, and the place behind them.
-#[derive(Drop)]
+#[derive(Clone, Copy)]
 pub struct Block {
     pub count: usize,
     pub next: usize,

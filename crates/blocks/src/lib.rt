@@ -1,3 +1,5 @@
 // The operator lines below an instrument's header.
 
+#![tactic(auto)]
+
 pub mod block;

@@ -1,3 +1,5 @@
 // Notes in columns of plain numbers, and where a part ends.
 
+#![tactic(auto)]
+
 pub mod length;

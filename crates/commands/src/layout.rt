@@ -11,7 +11,7 @@ use lines::names::least;
 use operator::operator::Operator;
 
 // Commands in the front of their array, so many of them.
-#[derive(Drop)]
+#[derive(Clone, Copy)]
 struct Laid {
     commands: [Slot; 64],
     count: usize,

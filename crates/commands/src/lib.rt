@@ -1,3 +1,5 @@
 // From operator lines to an instrument: its commands in their array, and its release.
 
+#![tactic(auto)]
+
 pub mod layout;

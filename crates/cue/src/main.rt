@@ -3,6 +3,8 @@
 // a text means, and every byte of the file, is promised by the crates below, and `answer` hands that on. That it is
 // handed on once, and answers to what was read, no contract can say: tools/held.txt holds the code of this crate.
 
+#![tactic(auto)]
+
 mod answer;
 mod handing;
 mod words;

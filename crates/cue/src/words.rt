@@ -11,7 +11,7 @@ use text::characters::same_text;
 pub const USE: [u8; 48] = *b"use: cue [strict] [old-size] < sheet > file.wav\n";
 
 // What the program is asked: to read in a mode and write the RIFF size of a name, or something that it does not understand.
-#[derive(Drop)]
+#[derive(Clone, Copy)]
 pub enum Asked {
     Read(Mode, Size),
     Unknown,

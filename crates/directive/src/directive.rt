@@ -15,7 +15,7 @@ use text::blanks::{blanks_end, ink_end};
 use text::characters::same_text;
 
 // What is changed, or the number of a refusal.
-#[derive(Drop)]
+#[derive(Clone, Copy)]
 pub enum Directive {
     Tempo(u32),
     Denominator(u32),

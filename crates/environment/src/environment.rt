@@ -5,7 +5,7 @@ ghost use Rattle.environment.specs.Environment.{at_the_start, octave_up, octave_
 
 use keys::key::{Accidental, Key};
 
-#[derive(Drop)]
+#[derive(Clone, Copy)]
 pub struct Environment {
     pub octave: u32,
     // The value of a note that has none of its own.

@@ -10,14 +10,14 @@ use number::decimal::Decimal;
 use number::digits::Int;
 
 // A digit run's value within bounds, or the number of its refusal.
-#[derive(Drop)]
+#[derive(Clone, Copy)]
 pub enum RangedValue {
     Value(u32),
     Refused(u32),
 }
 
 // An amplitude, or the number of its refusal.
-#[derive(Drop)]
+#[derive(Clone, Copy)]
 pub enum RangedAmplitude {
     Amplitude(f32),
     Refused(u32),

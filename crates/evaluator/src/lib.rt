@@ -1,3 +1,5 @@
 // The samples of a sheet, window by window.
 
+#![tactic(auto)]
+
 pub mod window;

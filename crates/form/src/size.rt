@@ -4,7 +4,7 @@ ghost use Rattle.std.specs.Prelude.{◌≡◌};
 ghost use Rattle.form.specs.Form.{size_field, size_numbered};
 
 // Which number stands in the field.
-#[derive(Drop)]
+#[derive(Clone, Copy)]
 pub enum Size {
     Published,
     Old,

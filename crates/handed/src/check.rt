@@ -16,7 +16,7 @@ use sheet::sheet::Sheet;
 use tone::time::{Length, sec_to_len};
 
 // What the check found: whether the sheet passes, and how many samples it has.
-#[derive(Drop)]
+#[derive(Clone, Copy)]
 pub struct Checked {
     pub passes: bool,
     // 0 where it does not pass.
@@ -24,7 +24,7 @@ pub struct Checked {
 }
 
 // A time in samples.
-#[derive(Drop)]
+#[derive(Clone, Copy)]
 struct Sounding {
     // Whether one note may have so many.
     within: bool,
@@ -32,7 +32,7 @@ struct Sounding {
 }
 
 // What going through the notes found.
-#[derive(Drop)]
+#[derive(Clone, Copy)]
 struct Walked {
     // Whether all of them pass.
     played: bool,

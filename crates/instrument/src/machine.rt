@@ -10,14 +10,14 @@ use lines::names::least;
 use operator::operator::Operator;
 
 // One command: an operator works on the value, or the value is set aside for later.
-#[derive(Drop)]
+#[derive(Clone, Copy)]
 pub enum Command {
     Operator(Operator),
     Stack(usize),
 }
 
 // A command as an element of an array.
-#[derive(Drop)]
+#[derive(Clone, Copy)]
 pub struct Slot {
     pub command: Command,
 }

@@ -13,7 +13,7 @@ use text::blanks::ink_end;
 use text::characters::stands_at;
 
 // A note as it is written: its letter, its accidental, its value and whether it is dotted.
-#[derive(Drop)]
+#[derive(Clone, Copy)]
 pub struct WrittenNote {
     pub letter: u8,
     pub accidental: Mark,
@@ -22,7 +22,7 @@ pub struct WrittenNote {
 }
 
 // An item as it is written. The name of an instrument or a macro runs from the item's place to its end.
-#[derive(Drop)]
+#[derive(Clone, Copy)]
 pub enum Item {
     Note(WrittenNote),
     Up,
@@ -41,7 +41,7 @@ pub enum Item {
 }
 
 // An item and the place after it.
-#[derive(Drop)]
+#[derive(Clone, Copy)]
 pub struct Found {
     pub item: Item,
     pub next: usize,

@@ -8,7 +8,7 @@ ghost use Rattle.keys.specs.Keys.{mark_at, note_mark_at, is_key_letter, among, k
 use text::characters::stands_at;
 
 // How a note is raised or lowered.
-#[derive(Drop)]
+#[derive(Clone, Copy)]
 pub enum Accidental {
     DoubleFlat,
     Flat,
@@ -18,14 +18,14 @@ pub enum Accidental {
 }
 
 // What a place of a text holds: an accidental with the place after it, or none.
-#[derive(Drop)]
+#[derive(Clone, Copy)]
 pub enum Mark {
     With(Accidental, usize),
     Without,
 }
 
 // Which of the letters a to g are raised or lowered, and how.
-#[derive(Drop)]
+#[derive(Clone, Copy)]
 pub struct Key {
     pub a: bool,
     pub b: bool,
@@ -38,7 +38,7 @@ pub struct Key {
 }
 
 // What a place of a text holds: a key with the place after it, or none.
-#[derive(Drop)]
+#[derive(Clone, Copy)]
 pub enum KeyAt {
     Found(Key, usize),
     Absent,

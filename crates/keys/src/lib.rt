@@ -1,3 +1,5 @@
 // Keys and accidentals, and how a text writes them.
 
+#![tactic(auto)]
+
 pub mod key;

@@ -1,3 +1,5 @@
 // The notes that were read into columns, laid out in the arrays of a sheet.
 
+#![tactic(auto)]
+
 pub mod parts;

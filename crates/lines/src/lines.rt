@@ -5,7 +5,7 @@ ghost use Rattle.text.specs.Fronts.{front};
 ghost use Rattle.lines.specs.Lines.{is_not_lf, line_at};
 
 // The place after a line's last byte, and the place where the next line begins.
-#[derive(Drop)]
+#[derive(Clone, Copy)]
 pub struct Line {
     pub end: usize,
     pub next: usize,

@@ -41,7 +41,7 @@ pub fn place_named(s: &[u8], places: &[usize], name: &[u8]) -> usize
 }
 
 // The first token of a line, from `from` to `end`, and whether a second one follows it.
-#[derive(Drop)]
+#[derive(Clone, Copy)]
 pub struct NameAt {
     pub from: usize,
     pub end: usize,

@@ -14,7 +14,7 @@ use crate::digits::{digit, is_digit, run_end};
 
 // What a place of a text holds: a number with the place after it, no decimal, or one of more than 18
 // digits.
-#[derive(Drop)]
+#[derive(Clone, Copy)]
 pub enum Decimal {
     Value(f32, usize),
     Unreadable,
@@ -22,14 +22,14 @@ pub enum Decimal {
 }
 
 // A fraction scaled by a power of two: how far, and the number that was scaled.
-#[derive(Drop)]
+#[derive(Clone, Copy)]
 struct Scaled {
     number: u64,
     by: u64,
 }
 
 // A quotient of 24 binary digits, and its remainder.
-#[derive(Drop)]
+#[derive(Clone, Copy)]
 struct Quotient {
     whole: u64,
     rest: u64,

@@ -6,7 +6,7 @@ ghost use Rattle.text.specs.Fronts.{front};
 ghost use Rattle.number.specs.Digits.{is_digit, int_at};
 
 // What a place of a text holds: a number with the place after its last digit, or none.
-#[derive(Drop)]
+#[derive(Clone, Copy)]
 pub enum Int {
     Number(u64, usize),
     Absent,

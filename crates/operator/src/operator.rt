@@ -9,7 +9,7 @@ ghost use Rattle.operator.specs.Lanes.{decay_level, release_level};
 use sine::turn::sine_by;
 
 // Six numbers of a sheet's operator line, and how often the operator works on its own output.
-#[derive(Drop)]
+#[derive(Clone, Copy)]
 pub struct Operator {
     pub amplitude: f32,
     pub freqratio: f32,
@@ -21,7 +21,7 @@ pub struct Operator {
 }
 
 // How loud an operator is at one time of a note: a factor, or past every stage of its envelope.
-#[derive(Drop)]
+#[derive(Clone, Copy)]
 pub(crate) enum Level {
     Held(f32),
     Past,

@@ -16,21 +16,21 @@ use strict::mode::{Mode, has_tail};
 use text::blanks::{blanks_end, ink_end};
 
 // What an operator line says: its indent and its operator, or the number of its refusal.
-#[derive(Drop)]
+#[derive(Clone, Copy)]
 pub enum OperatorLine {
     Read(usize, Operator),
     Refused(u32),
 }
 
 // A token's number and the place behind the token, or the number of its refusal.
-#[derive(Drop)]
+#[derive(Clone, Copy)]
 enum Number {
     Is(f32, usize),
     Refused(u32),
 }
 
 // Three numbers and the place behind the third token, or the number of the first refusal.
-#[derive(Drop)]
+#[derive(Clone, Copy)]
 enum Three {
     Are(f32, f32, f32, usize),
     Refused(u32),
@@ -38,14 +38,14 @@ enum Three {
 
 // The operator of six numbers without its feedback, and the place behind the sixth token, or the
 // number of the first refusal.
-#[derive(Drop)]
+#[derive(Clone, Copy)]
 enum Six {
     Are(Operator, usize),
     Refused(u32),
 }
 
 // How often an operator works on its own output, or the number of its refusal.
-#[derive(Drop)]
+#[derive(Clone, Copy)]
 enum Feedback {
     Is(u32),
     Refused(u32),

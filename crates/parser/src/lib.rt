@@ -1,5 +1,7 @@
 // The reader of sheets.
 
+#![tactic(auto)]
+
 pub mod ending;
 pub mod header;
 pub mod parts;

@@ -1,5 +1,7 @@
 // The body of a part line (the Rust's `part.rs`): its items, and what each does.
 
+#![tactic(auto)]
+
 mod body;
 mod command;
 mod note;

@@ -2,7 +2,7 @@
 
 use environment::environment::Environment;
 
-#[derive(Drop)]
+#[derive(Clone, Copy)]
 pub struct State {
     pub env: Environment,
     // How many notes the part has, and how many all other parts have.

@@ -13,7 +13,7 @@ use number::decimal::Decimal;
 use number::digits::Int;
 
 // An environment, or the number of a refusal.
-#[derive(Drop)]
+#[derive(Clone, Copy)]
 pub enum Changed {
     To(Environment),
     Refused(u32),

@@ -1,5 +1,7 @@
 // A sheet as it is read and handed to the renderer: notes and instruments in counted arrays.
 
+#![tactic(auto)]
+
 pub mod answer;
 pub mod length;
 pub mod note;

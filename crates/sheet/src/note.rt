@@ -1,6 +1,6 @@
 // A note: how loud, how high, how long, and on which instrument.
 
-#[derive(Drop)]
+#[derive(Clone, Copy)]
 pub struct Note {
     // 0.0 for a rest.
     pub amplitude: f32,

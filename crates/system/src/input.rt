@@ -6,7 +6,7 @@ ghost use Rattle.system.specs.Counts.{Within};
 use libc::{EINTR, STDIN_FILENO};
 
 // What stands at a buffer's start: so many bytes that were read, or nothing that means anything, as reading failed.
-#[derive(Drop)]
+#[derive(Clone, Copy)]
 pub enum Input {
     Read(usize),
     Failed,

@@ -3,6 +3,8 @@
 // with. No contract can say which bytes the system hands over or takes: of a program that is what is not proved, and
 // its code is looked at.
 
+#![tactic(auto)]
+
 pub mod input;
 pub mod output;
 pub mod words;

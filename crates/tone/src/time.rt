@@ -5,7 +5,7 @@ ghost use Rattle.std.specs.Prelude.{◌≡◌};
 ghost use Rattle.tone.specs.Time.{duration_of, count_of, length_of};
 
 // How many samples a time takes: their number, or why there is none.
-#[derive(Drop)]
+#[derive(Clone, Copy)]
 pub enum Length {
     Samples(u64),
     NotANumber,

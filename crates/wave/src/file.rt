@@ -10,7 +10,7 @@ use form::sample::sample;
 use form::size::Size;
 
 // What became of a write: so many bytes were written, or the buffer is too short (refusal 30).
-#[derive(Drop)]
+#[derive(Clone, Copy)]
 pub enum Written {
     Wrote(usize),
     TooShort,

@@ -1,0 +1,9 @@
+-- `table` gives the table of the definition: the two lists of numbers are one list, entry by entry.
+-- Assumes nothing.
+use mathlib.Core.Path.{refl}
+use Rattle.circle.specs.Quarter.{quarter}
+use Rattle.circle.proofs.quarter.table.Goals as goal
+
+pub returns : goal.returns
+unfolding quarter
+returns c = refl

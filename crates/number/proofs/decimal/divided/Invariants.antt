@@ -1,0 +1,15 @@
+-- `divided` is long division: after i binary places n * 2 ^ i is the quotient times d and a rest below d.
+-- Assumes nothing.
+use mathlib.Core.Path.{◌≡◌, sym, ap, ◌∙◌}
+use mathlib.Core.Logic.{⊎_elim}
+use Prim.Native.Nat.{ℕ, ◌+◌, ◌*◌, ◌-◌, ◌^◌, ◌≤◌, ◌<◌}
+use native.Mathlib.Omega.{arith}
+use lib.Pow.{pow_mono}
+use Rattle.number.proofs.Powers.{pow_more, twice_scaled}
+use Rattle.number.proofs.decimal.divided.Given as goal
+
+abbrev pub invariant-loop-i : goal.invariant-loop-i
+invariant-loop-i l = (l.n * 2 ^ l.i ≡ l.whole * l.d + l.rest) × (l.rest < l.d) × (l.whole < 2 * 2 ^ l.i) × (l.i ≤ 23)
+
+abbrev pub decreases-loop-i : goal.decreases-loop-i
+decreases-loop-i l = 23 - l.i

@@ -1,0 +1,13 @@
+-- `is_digit` is the test of the definition: the two comparisons are the two branches.
+-- Assumes nothing.
+use borrow.Author.Tests.{le-leb, lt-leb}
+use Rattle.number.specs.Digits.{is_digit}
+use Rattle.number.proofs.digits.is_digit.Goals as goal
+
+pub returns-then-b-lt48 : goal.returns-then-b-lt48
+unfolding is_digit
+returns-then-b-lt48 c = simp (lt-leb _ _ c.if-b-lt48.true)
+
+pub returns : goal.returns
+unfolding is_digit
+returns c = simp (le-leb _ _ c.if-b-lt48.false)

@@ -1,0 +1,15 @@
+-- `same_text` keeps that what is left to compare says what the whole says. Assumes nothing.
+use mathlib.Core.Path.{◌≡◌, refl, sym, ◌∙◌}
+use Prim.Native.Nat.{◌-◌}
+use native.Mathlib.Omega.{arith}
+use borrow.Author.Rules.{rules}
+use lib.ListN.{length, drop}
+use Rattle.text.specs.Characters.{same}
+use Rattle.text.proofs.Sames.{same_lengths, same_more, same_apart, same_end}
+use Rattle.text.proofs.characters.same_text.Given as goal
+
+abbrev pub invariant-loop-at : goal.invariant-loop-at
+invariant-loop-at l = (length l.s ≡ length l.t) × (same (drop l.at l.s) (drop l.at l.t) ≡ same l.s l.t)
+
+abbrev pub decreases-loop-at : goal.decreases-loop-at
+decreases-loop-at l = length l.s - l.at
