@@ -2,9 +2,9 @@
 use Rattle.std.proofs.Common.{◌≡◌, ℕ, zero, suc, ◌+◌, ◌-◌, ◌%◌, ◌^◌, ◌<◌, min, List, map, length, get_or, sym, refl, ap, ◌∙◌, subst, ap₂, add-one, arith}
 use lib.ListN.{length-map, get_or-map}
 use lib.Ieee.{Float, nan, binary32, to_bits, of_bits}
-use Rattle.circle.specs.Quarter.{quarter}
+use Rattle.sine.specs.Quarter.{quarter}
 use Rattle.sine.specs.Turn.{turn_sine_by, turn_sine}
-use Rattle.sine.specs.Lanes.{Lanes}
+use Rattle.sine.specs.Lanes.{LanesOf}
 use Rattle.sine.proofs.Sine.{sine_not_finite}
 use Rattle.ask_numbers.specs.Answer.{mixed, sines_from}
 use Rattle.ask_numbers.specs.Sines.{float_from, mixed_with}
@@ -22,7 +22,7 @@ abbrev Sines : ℕ → ℕ → List Float → Type 0
 Sines p n values = (j : ℕ) → j < n → get_or values j nan ≡ turn_sine (of_bits binary32 ((p + j) % 2 ^ 32))
 
 -- the sines of filled lanes are those of their patterns
-sines_filled : (p n : ℕ) (before filled values : List Float) (table : List ℕ) → Lanes nan (float_from p) n before filled → table ≡ quarter → values ≡ map (turn_sine_by table) filled → Sines p n values
+sines_filled : (p n : ℕ) (before filled values : List Float) (table : List ℕ) → LanesOf nan (float_from p) n before filled → table ≡ quarter → values ≡ map (turn_sine_by table) filled → Sines p n values
 unfolding float_from
 sines_filled p n before filled values table r q e j l =
     ap (λ (vs : List Float). get_or vs j nan) e
@@ -49,7 +49,7 @@ pub mapped_size : (table : List ℕ) (filled values : List Float) → values ≡
 mapped_size table filled values e = ap length e ∙ length-map filled (turn_sine_by table)
 
 -- a turn of the loop: as many of the lanes as there are patterns left
-pub goes_on : {sum' p' : ℕ} (sum p left n : ℕ) (before filled values : List Float) (table : List ℕ) → p < 2 ^ 32 → table ≡ quarter → Lanes nan (float_from p) 32 before filled
+pub goes_on : {sum' p' : ℕ} (sum p left n : ℕ) (before filled values : List Float) (table : List ℕ) → p < 2 ^ 32 → table ≡ quarter → LanesOf nan (float_from p) 32 before filled
     → values ≡ map (turn_sine_by table) filled → n ≡ min left 32 → sum' ≡ mixed_with sum values n → p' ≡ (p + n) % 2 ^ 32 → sines_from sum' p' (left - n) ≡ sines_from sum p left
 goes_on sum p left n before filled values table h q r e m es ep =
     let f : n + (left - n) ≡ left = omega arith in

@@ -3,7 +3,7 @@
 
 ghost use Rattle.std.specs.Prelude.{◌≡◌, length, to_bits};
 ghost use Rattle.std.specs.Float.{binary32};
-ghost use Rattle.circle.specs.Quarter.{quarter};
+ghost use Rattle.sine.specs.Quarter.{quarter};
 ghost use Rattle.ask_numbers.specs.Answer.{tagged, valued, decimal_answer, digits_answer, length_answer, decimal_for, digits_for, sine_for, frequency_for, duration_for, length_for, sines_for, answer_to};
 
 use crate::{request, sines};

@@ -4,7 +4,7 @@
 ghost use Rattle.std.specs.Prelude.{◌≡◌, ◌+◌, ◌*◌, ◌/◌, ◌≤◌, min, length};
 ghost use Rattle.std.proofs.lemmas.List.Edits.{sets};
 ghost use Rattle.io.specs.Counts.{IsPrefixLen};
-ghost use Rattle.circle.specs.Quarter.{quarter};
+ghost use Rattle.sine.specs.Quarter.{quarter};
 ghost use Rattle.ask_numbers.specs.Block.{little, put_at, answered};
 
 use crate::answer;

@@ -9,7 +9,7 @@ mod request;
 mod sines;
 
 ghost use Rattle.std.specs.Prelude.{◌≡◌};
-ghost use Rattle.circle.specs.Quarter.{quarter};
+ghost use Rattle.sine.specs.Quarter.{quarter};
 
 use libc::{STDIN_FILENO, STDOUT_FILENO};
 
@@ -32,7 +32,7 @@ fn answer_block(table: &[u32; 1025]) -> bool
 // A proved loop has to end, and nothing says that the input does. So the loop counts its turns down,
 // from a number that no run uses up.
 fn main() {
-    let table = circle::quarter::table();
+    let table = sine::quarter::table();
     let mut turns = u64::MAX;
     while turns > 0 && answer_block(&table) {
         turns -= 1;

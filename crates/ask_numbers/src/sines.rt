@@ -4,9 +4,9 @@
 
 ghost use Rattle.std.specs.Prelude.{◌≡◌, ◌<◌, ◌≤◌, min, length, from_bits, to_bits};
 ghost use Rattle.std.specs.Float.{nan, binary32};
-ghost use Rattle.circle.specs.Quarter.{quarter};
+ghost use Rattle.sine.specs.Quarter.{quarter};
 ghost use Rattle.sine.specs.Turn.{turn_sine};
-ghost use Rattle.sine.specs.Lanes.{Lanes};
+ghost use Rattle.sine.specs.Lanes.{LanesOf};
 ghost use Rattle.ask_numbers.specs.Answer.{mixed, prime, sines_from};
 ghost use Rattle.ask_numbers.specs.Sines.{float_from, mixed_with};
 
@@ -51,7 +51,7 @@ fn mix_lanes(sum: u64, values: &[f32; 32], n: u32) -> u64
 // The numbers of 32 patterns from one on, which wrap at 2^32.
 fn fill(values: &mut [f32; 32], pattern: u32)
     requires { length values.old ≡ 32 }
-    ensures { Lanes nan (float_from pattern) 32 values.old values.new }
+    ensures { LanesOf nan (float_from pattern) 32 values.old values.new }
 {
     let mut next = pattern;
     let mut j: usize = 0;

@@ -8,7 +8,7 @@ use Rattle.instrument.specs.declared.machine.Command.{Command}
 use Rattle.instrument.specs.declared.machine.Command.TheVariants as Command
 use Rattle.instrument.specs.Machine.{Entry, topped, step}
 use Rattle.instrument.specs.Lanes.{Keeps, SettlesLanes, StepsLanes, settled_at, step_by, stack_by, lane_stack, lane_state, plus_kept}
-use Rattle.sine.specs.Lanes.{Lanes}
+use Rattle.operator.specs.Lanes.{Lanes}
 use Rattle.operator.specs.Lanes.{always}
 use Rattle.operator.specs.Lent.{worked_over}
 use Rattle.operator.proofs.Lent.{over_length, over_done}
@@ -43,7 +43,7 @@ module _ (w depth : ℕ) (values : List Float) (counts : List ℕ) (saved : List
         values_size = refl;
       }
 
-  pub settles_add : (top : ℕ) (after : List Float) → depth ≡ suc top → get_or counts top 0 ≡ 0 → Lanes nan (plus_kept saved (top * w)) w values after
+  pub settles_add : (top : ℕ) (after : List Float) → depth ≡ suc top → get_or counts top 0 ≡ 0 → Lanes (plus_kept saved (top * w)) w values after
       → SettlesLanes w depth values counts saved after top counts
   unfolding lane_state settled_at plus_kept
   settles_add top after e z r =
@@ -109,7 +109,7 @@ module _ (table : List ℕ) (f d : Float) (times : List Float) (w depth : ℕ) (
       }
 
   pub steps_stack : (m : ℕ) (command : Command) (after savedAfter : List Float) → command ≡ Command.Stack m → length values ≡ w → length times ≤ w → depth < length counts
-      → Keeps (depth * w) w values saved savedAfter → Lanes nan (always plus_zero) w values after
+      → Keeps (depth * w) w values saved savedAfter → Lanes (always plus_zero) w values after
       → StepsLanes table f d times w command depth values counts saved after (depth + 1) (set counts depth m) savedAfter
   unfolding lane_state lane_stack step_by step always stack_by
   steps_stack m command after savedAfter e z h g k r =

@@ -2,7 +2,7 @@
 use Rattle.std.proofs.Common.{◌≡◌, ℕ, ◌+◌, List, ◌++◌, length, take, drop, ap}
 use lib.Ieee.{Float, binary32, add, mul}
 use Rattle.ieee.specs.Constants.{plus_zero}
-use Rattle.circle.specs.Quarter.{quarter}
+use Rattle.sine.specs.Quarter.{quarter}
 use Rattle.operator.specs.declared.operator.Operator.{Operator}
 use Rattle.operator.specs.Evaluation.{operator_at}
 use Rattle.operator.specs.Lent.{operator_by}

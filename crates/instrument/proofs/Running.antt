@@ -11,7 +11,7 @@ use Rattle.instrument.specs.Machine.{State, run, machine}
 use Rattle.instrument.specs.Evaluation.{list_of}
 use Rattle.instrument.specs.Lent.{instrument_by, sound_by}
 use Rattle.instrument.specs.Lanes.{StepsLanes, step_by, run_by, lane_state, timed}
-use Rattle.sine.specs.Lanes.{Lanes}
+use Rattle.operator.specs.Lanes.{Lanes}
 use Rattle.instrument.proofs.Filling.{sound_is}
 
 -- the machine at the start
@@ -93,7 +93,7 @@ module _ (table : List ℕ) (f d : Float) (i : Instrument) (times : List Float) 
 
 -- the lanes' values are the note's samples
 pub lanes_sound : (table : List ℕ) (f d : Float) (i : Instrument) (amplitude : Float) (rate first at n : ℕ) (unit : Float) (before times values : List Float) → unit ≡ div binary32 one (of_int binary32 (pos rate))
-    → n ≤ length times → Lanes nan (timed (first + at) unit) n before times
+    → n ≤ length times → Lanes (timed (first + at) unit) n before times
     → ((j : ℕ) → j < length (take n times) → get_or values j nan ≡ instrument_by table f d (get_or (take n times) j nan) i)
     → (j : ℕ) → j < n → mul binary32 amplitude (get_or values j nan) ≡ sound_by table i amplitude f d rate first (at + j)
 unfolding timed

@@ -4,7 +4,7 @@
 ghost use Rattle.std.specs.Prelude.{◌≡◌, ℕ, ◌+◌, ◌*◌, ◌<◌, ◌≤◌, length};
 ghost use Rattle.std.specs.Float.{nan};
 ghost use Rattle.ieee.specs.Constants.{plus_zero};
-ghost use Rattle.sine.specs.Lanes.{Lanes};
+ghost use Rattle.operator.specs.Lanes.{Lanes};
 ghost use Rattle.operator.specs.Lanes.{always};
 ghost use Rattle.instrument.specs.Lanes.{Keeps, SettlesLanes, StepsLanes, MixesLanes, timed, plus_kept};
 
@@ -14,7 +14,7 @@ use lines::names::least;
 // The times of n samples from sample `first` on. Signed numbers of 32 bits are made floats four at once.
 pub(crate) fn times_from(times: &mut [f32], first: usize, n: usize, unit: f32)
     requires { (n ≤ length times.old) × (first + n ≤ 16777216) }
-    ensures { Lanes nan (timed first unit) n times.old times.new }
+    ensures { Lanes (timed first unit) n times.old times.new }
 {
     let mut j: usize = 0;
     while j < n {
@@ -25,7 +25,7 @@ pub(crate) fn times_from(times: &mut [f32], first: usize, n: usize, unit: f32)
 
 // 0.0 in all lanes.
 pub(crate) fn clear(values: &mut [f32])
-    ensures { Lanes nan (always plus_zero) (length values.old) values.old values.new }
+    ensures { Lanes (always plus_zero) (length values.old) values.old values.new }
 {
     let mut j: usize = 0;
     while j < values.len() {
@@ -49,7 +49,7 @@ fn keep(saved: &mut [f32], values: &[f32], from: usize)
 // Adds what was set aside from element `from` on to all lanes.
 fn add_kept(values: &mut [f32], saved: &[f32], from: usize)
     requires { from + length values.old ≤ length saved.now }
-    ensures { Lanes nan (plus_kept saved.now from) (length values.old)
+    ensures { Lanes (plus_kept saved.now from) (length values.old)
         values.old values.new }
 {
     let mut j: usize = 0;

@@ -85,7 +85,7 @@ impl Instrument {
     pub fn eval(self, f: f32, d: f32, t: f32) -> f32
         ensures { result ≡ instrument_at f d t self }
     {
-        let table = circle::quarter::table();
+        let table = sine::quarter::table();
         let mut counts = blank_counts();
         let mut saved = blank_stack();
         let times = [t];
@@ -236,7 +236,7 @@ impl Instrument {
         ensures count { result ≡ count_from first (length out.old) }
         ensures values { out.new ≡ filled self amplitude f d rate first added out.old }
     {
-        let table = circle::quarter::table();
+        let table = sine::quarter::table();
         self.fill_by(&table, out, amplitude, f, d, rate, first, added)
     }
 }

@@ -1,7 +1,7 @@
 // Mixes the notes of a sheet into a lent slice, one note after the other.
 
 ghost use Rattle.std.specs.Prelude.{◌≡◌, ◌+◌, ◌-◌, ◌*◌, ◌≤◌, ◌<◌, min, length};
-ghost use Rattle.circle.specs.Quarter.{quarter};
+ghost use Rattle.sine.specs.Quarter.{quarter};
 ghost use Rattle.tone.specs.Time.{note_most};
 ghost use Rattle.sheet.specs.Capacities.{notes_most};
 ghost use Rattle.mixing.specs.Placing.{sounds_of, placed_note, placed};
@@ -63,7 +63,7 @@ fn mix_note(
 pub fn mix(sheet: Sheet, out: &mut [f32], rate: u32, from: usize)
     ensures { out.new ≡ mix_all 0 (placed rate sheet) from out.old }
 {
-    let table = circle::quarter::table();
+    let table = sine::quarter::table();
     let instruments = least(sheet.instruments, 32);
     let parts = least(sheet.parts, 16);
     let mut covered: usize = 0;

@@ -14,16 +14,38 @@ use lib.ListN.{length, get_or, set, length-set}
 use lib.Seq.{get_or-set_same, get_or-set_other, ext_get_or}
 use lib.Ieee.{Float, nan, binary32, add, mul, div}
 use Rattle.sine.specs.Turn.{turn_sine_by}
-use Rattle.sine.specs.Lanes.{turn_sine_at}
-use Rattle.sine.proofs.LaneLaws.{lanes_same}
 use Rattle.operator.specs.declared.operator.Operator.{Operator}
 use Rattle.operator.specs.declared.operator.Level.{Level}
 use Rattle.operator.specs.declared.operator.Level.TheVariants.{Held}
 use Rattle.operator.specs.Evaluation.{level_of, turn_at, rounds}
 use Rattle.operator.specs.Lent.{worked_by, operator_by, worked_over}
-use Rattle.sine.specs.Lanes.{Lanes}
-use Rattle.operator.specs.Lanes.{Levelled, Staged, Counted, Tells, Within, always, turned_at, released_at, decayed_at, risen_at, release_level, decay_level, phase_at, scaled_at, round_at, rounds_at, worked_at}
+use Rattle.sine.specs.Lanes.{LanesOf, turn_sine_at}
+use Rattle.operator.specs.Lanes.{Lanes, Levelled, Staged, Counted, Tells, Within, always, turned_at, released_at, decayed_at, risen_at, release_level, decay_level, phase_at, scaled_at, round_at, rounds_at, worked_at}
 use Rattle.operator.proofs.Lent.{over_length, over_done, over_kept}
+
+module _ (h : ℕ → Float → Float) where
+  pub lanes_none : (xs : List Float) → Lanes h 0 xs xs
+  lanes_none xs = record { done = λ j l. absurd (omega arith); kept = λ j l. refl; size = refl }
+
+  -- one more lane
+  pub lanes_more : (j : ℕ) (xs ys : List Float) (y : Float) → j < length xs → Lanes h j xs ys → y ≡ h j (get_or ys j nan) → Lanes h (j + 1) xs (set ys j y)
+  lanes_more j xs ys y l r e =
+      record {
+        done =
+            λ m p. ⊎_elim {C = get_or (set ys j y) m nan ≡ h m (get_or xs m nan)}
+            (λ q. subst (λ (k : ℕ). get_or (set ys j y) k nan ≡ h k (get_or xs k nan)) (sym q) (get_or-set_same ys j y nan (omega (arith, r.size)) ∙ e ∙ ap (h j) (r.kept j (le_refl _))))
+            (λ q. get_or-set_other ys j m y nan (λ (w : m ≡ j). omega arith) ∙ r.done m q) (eq-or-lt_of_le {n = m} {m = j} (omega arith));
+        kept = λ m p. get_or-set_other ys j m y nan (λ (w : m ≡ j). omega arith) ∙ r.kept m (omega arith);
+        size = length-set ys j y ∙ r.size;
+      }
+
+  -- so many lanes by another name
+  pub lanes_to : (j n : ℕ) (xs ys : List Float) → j ≡ n → Lanes h j xs ys → Lanes h n xs ys
+  lanes_to j n xs ys e r = subst (λ (k : ℕ). Lanes h k xs ys) e r
+
+  -- the same lanes by another name
+  pub lanes_same : (g : ℕ → Float → Float) (n : ℕ) (xs ys : List Float) → ((j : ℕ) (x : Float) → j < n → g j x ≡ h j x) → Lanes g n xs ys → Lanes h n xs ys
+  lanes_same g n xs ys e r = record { done = λ j l. r.done j l ∙ e j (get_or xs j nan) l; kept = r.kept; size = r.size }
 
 -- one more round after n of them
 pub rounds_last : (n : ℕ) (h : Float → Float) (x : Float) → h (rounds n h x) ≡ rounds (suc n) h x
@@ -33,11 +55,11 @@ rounds_last (suc n) h x = rounds_last n h (h x)
 
 module _ (h : ℕ → Float → Float) where
   -- no round, and a round before the others
-  pub rounds_none : (n : ℕ) (xs : List Float) → Lanes nan (rounds_at 0 h) n xs xs
+  pub rounds_none : (n : ℕ) (xs : List Float) → Lanes (rounds_at 0 h) n xs xs
   unfolding rounds_at rounds
   rounds_none n xs = record { done = λ j l. refl; kept = λ j l. refl; size = refl }
 
-  pub lanes_first : (i n : ℕ) (xs ys zs : List Float) → Lanes nan h n xs ys → Lanes nan (rounds_at i h) n ys zs → Lanes nan (rounds_at (suc i) h) n xs zs
+  pub lanes_first : (i n : ℕ) (xs ys zs : List Float) → Lanes h n xs ys → Lanes (rounds_at i h) n ys zs → Lanes (rounds_at (suc i) h) n xs zs
   unfolding rounds_at rounds
   lanes_first i n xs ys zs r s =
       record {
@@ -47,7 +69,7 @@ module _ (h : ℕ → Float → Float) where
       }
 
   -- one more round in all lanes
-  pub lanes_round : (i n : ℕ) (xs ys zs : List Float) → Lanes nan (rounds_at i h) n xs ys → Lanes nan h n ys zs → Lanes nan (rounds_at (i + 1) h) n xs zs
+  pub lanes_round : (i n : ℕ) (xs ys zs : List Float) → Lanes (rounds_at i h) n xs ys → Lanes h n ys zs → Lanes (rounds_at (i + 1) h) n xs zs
   unfolding rounds_at
   lanes_round i n xs ys zs r s =
       record {
@@ -57,8 +79,8 @@ module _ (h : ℕ → Float → Float) where
       }
 
 -- the steps of a round one after the other
-pub round_steps : (table : List ℕ) (amplitude : Float) (levels turns : List Float) (m : ℕ) (xs ys zs ws : List Float) → Lanes nan (phase_at turns) m xs ys → Lanes nan (turn_sine_at table) m ys zs
-    → Lanes nan (scaled_at amplitude levels) m zs ws → Lanes nan (round_at table amplitude levels turns) m xs ws
+pub round_steps : (table : List ℕ) (amplitude : Float) (levels turns : List Float) (m : ℕ) (xs ys zs ws : List Float) → Lanes (phase_at turns) m xs ys → LanesOf nan (turn_sine_at table) m ys zs
+    → Lanes (scaled_at amplitude levels) m zs ws → Lanes (round_at table amplitude levels turns) m xs ws
 unfolding phase_at scaled_at round_at turn_sine_at
 round_steps table amplitude levels turns m xs ys zs ws p q r =
     record {
@@ -69,7 +91,7 @@ round_steps table amplitude levels turns m xs ys zs ws p q r =
 
 -- rounds at the lanes' levels and turns are the operator's work
 pub lanes_work : (table : List ℕ) (op : Operator) (f d : Float) (times : List Float) (n : ℕ) (levels blank turns : List Float) (m : ℕ) (xs ys : List Float) → Levelled op d times n levels m
-    → Lanes nan (turned_at op.freqratio f times) n blank turns → Lanes nan (rounds_at (suc op.feedback) (round_at table op.amplitude levels turns)) m xs ys → Lanes nan (worked_at table op f d times) m xs ys
+    → Lanes (turned_at op.freqratio f times) n blank turns → Lanes (rounds_at (suc op.feedback) (round_at table op.amplitude levels turns)) m xs ys → Lanes (worked_at table op f d times) m xs ys
 unfolding worked_at operator_by rounds_at round_at worked_by turned_at turn_at
 lanes_work table op f d times n levels blank turns m xs ys v t r =
     lanes_same (worked_at table op f d times) (rounds_at (suc op.feedback) (round_at table op.amplitude levels turns)) m xs ys
@@ -118,7 +140,7 @@ module _ (low low2 high high2 : Float) (times : List Float) where
 
 module _ (op : Operator) (d : Float) (times : List Float) (n : ℕ) where
   -- all lanes are in one stage, and have its levels
-  in_stage : (low low2 high high2 : Float) (h : ℕ → Float → Float) (r : ℕ) (blank levels : List Float) → Counted low low2 high high2 times n r → r ≡ n → Lanes nan h n blank levels
+  in_stage : (low low2 high high2 : Float) (h : ℕ → Float → Float) (r : ℕ) (blank levels : List Float) → Counted low low2 high high2 times n r → r ≡ n → Lanes h n blank levels
       → ((j : ℕ) (x : Float) → Within low low2 high high2 (get_or times j nan) → level_of op d (get_or times j nan) ≡ Held (h j x)) → length blank ≡ 32 → Staged op d times n levels true
   in_stage low low2 high high2 h r blank levels q e s v z =
       record {
@@ -126,22 +148,22 @@ module _ (op : Operator) (d : Float) (times : List Float) (n : ℕ) where
         size = s.size ∙ z;
       }
 
-  pub staged_steady : (r : ℕ) (blank levels : List Float) → Counted op.attack (add binary32 op.attack op.decay) d d times n r → r ≡ n → Lanes nan (always op.sustain) n blank levels
+  pub staged_steady : (r : ℕ) (blank levels : List Float) → Counted op.attack (add binary32 op.attack op.decay) d d times n r → r ≡ n → Lanes (always op.sustain) n blank levels
       → length blank ≡ 32 → Staged op d times n levels true
   unfolding always
   staged_steady r blank levels q e s z = in_stage _ _ _ _ (always op.sustain) r blank levels q e s (λ j x w. sustain_level op d (get_or times j nan) w) z
 
   pub staged_released : (r : ℕ) (blank levels : List Float) → Counted op.attack d (add binary32 d op.release) (add binary32 d op.release) times n r → r ≡ n
-      → Lanes nan (released_at op.sustain op.release d times) n blank levels → length blank ≡ 32 → Staged op d times n levels true
+      → Lanes (released_at op.sustain op.release d times) n blank levels → length blank ≡ 32 → Staged op d times n levels true
   unfolding released_at
   staged_released r blank levels q e s z = in_stage _ _ _ _ (released_at op.sustain op.release d times) r blank levels q e s (λ j x w. release_level_law op d (get_or times j nan) w) z
 
   pub staged_decaying : (r : ℕ) (blank levels : List Float) → Counted op.attack op.attack d (add binary32 op.attack op.decay) times n r → r ≡ n
-      → Lanes nan (decayed_at op.attack op.decay op.sustain times) n blank levels → length blank ≡ 32 → Staged op d times n levels true
+      → Lanes (decayed_at op.attack op.decay op.sustain times) n blank levels → length blank ≡ 32 → Staged op d times n levels true
   unfolding decayed_at
   staged_decaying r blank levels q e s z = in_stage _ _ _ _ (decayed_at op.attack op.decay op.sustain times) r blank levels q e s (λ j x w. decay_level_law op d (get_or times j nan) w) z
 
-  pub staged_rising : (low low2 : Float) (r : ℕ) (blank levels : List Float) → Counted low low2 op.attack op.attack times n r → r ≡ n → Lanes nan (risen_at op.attack times) n blank levels
+  pub staged_rising : (low low2 : Float) (r : ℕ) (blank levels : List Float) → Counted low low2 op.attack op.attack times n r → r ≡ n → Lanes (risen_at op.attack times) n blank levels
       → length blank ≡ 32 → Staged op d times n levels true
   unfolding risen_at
   staged_rising low low2 r blank levels q e s z = in_stage _ _ _ _ (risen_at op.attack times) r blank levels q e s (λ j x w. attack_level op d (get_or times j nan) low low2 w) z
@@ -169,7 +191,7 @@ module _ (op : Operator) (d : Float) (times : List Float) (n : ℕ) where
 
 -- with each value worked on that has a time, the lanes are what the definition says
 pub lanes_over : (table : List ℕ) (op : Operator) (f d : Float) (times xs ys : List Float) (n : ℕ) → n ≡ min (length xs) (length times)
-    → Lanes nan (worked_at table op f d times) n xs ys → ys ≡ worked_over table f d op times xs
+    → Lanes (worked_at table op f d times) n xs ys → ys ≡ worked_over table f d op times xs
 unfolding worked_at
 lanes_over table op f d times xs ys n e r =
     ext_get_or nan ys (worked_over table f d op times xs) (r.size ∙ sym (over_length table f d op times xs)) (λ j l. lane j l (ltb j n) refl)

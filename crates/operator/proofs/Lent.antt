@@ -5,7 +5,7 @@ use Prim.Native.Nat.{ℕ, zero, suc, ◌≤◌, ◌<◌}
 use native.Mathlib.Omega.{arith}
 use lib.ListN.{length, get_or}
 use lib.Ieee.{Float, nan}
-use Rattle.circle.specs.Quarter.{quarter}
+use Rattle.sine.specs.Quarter.{quarter}
 use Rattle.operator.specs.declared.operator.Operator.{Operator}
 use Rattle.operator.specs.declared.operator.Level.{Level}
 use Rattle.operator.specs.declared.operator.Level.TheVariants.{Held, Past}

@@ -4,11 +4,16 @@ use Rattle.std.specs.Float.{nan, binary32}
 use Rattle.std.specs.Float.Ieee.{add, sub, mul, div, lt}
 use Rattle.ieee.specs.Constants.{one}
 use Rattle.sine.specs.Turn.{turn_sine_by}
-use Rattle.sine.specs.Lanes.{Lanes}
 use Rattle.operator.specs.declared.operator.Operator.{Operator}
 use Rattle.operator.specs.declared.operator.Level.TheVariants.{Held}
 use Rattle.operator.specs.Evaluation.{two_pi, level_of, rounds}
 use Rattle.operator.specs.Lent.{operator_by}
+
+-- the first n lanes have h's value of what they had, and the others what they had
+pub record Lanes (h : ℕ → Float → Float) (n : ℕ) (before after : List Float) : Type 0 where
+  pub done : (j : ℕ) → j < n → get_or after j nan ≡ h j (get_or before j nan)
+  pub kept : (j : ℕ) → n ≤ j → get_or after j nan ≡ get_or before j nan
+  pub size : length after ≡ length before
 
 -- the same value in each lane
 unfoldable pub always : Float → ℕ → Float → Float
@@ -89,4 +94,4 @@ pub record Staged (op : Operator) (d : Float) (times : List Float) (n : ℕ) (le
 -- the first r lanes have been worked on
 pub record Worked (table : List ℕ) (op : Operator) (f d : Float) (times : List Float) (n : ℕ) (before after : List Float) (r : ℕ) : Type 0 where
   pub within : r ≤ n
-  pub lanes : Lanes nan (worked_at table op f d times) r before after
+  pub lanes : Lanes (worked_at table op f d times) r before after

@@ -2,10 +2,8 @@
 // sines of the lanes overlap.
 
 ghost use Rattle.std.specs.Prelude.{◌≡◌, suc, ◌≤◌, length};
-ghost use Rattle.std.specs.Float.{nan};
 ghost use Rattle.operator.specs.Lent.{worked_over};
-ghost use Rattle.sine.specs.Lanes.{Lanes};
-ghost use Rattle.operator.specs.Lanes.{Levelled, Staged, Counted, Tells, Worked, always, turned_at, released_at};
+ghost use Rattle.operator.specs.Lanes.{Lanes, Levelled, Staged, Counted, Tells, Worked, always, turned_at, released_at};
 ghost use Rattle.operator.specs.Lanes.{decayed_at, risen_at, phase_at, scaled_at, round_at, rounds_at};
 
 use crate::operator::{Level, Operator, PI, decay_level, release_level};
@@ -15,7 +13,7 @@ use sine::lanes::sines_by;
 // The same number in n lanes.
 fn set_lanes(levels: &mut [f32; 32], n: usize, x: f32)
     requires { (n ≤ 32) × (length levels.old ≡ 32) }
-    ensures { Lanes nan (always x) n levels.old levels.new }
+    ensures { Lanes (always x) n levels.old levels.new }
 {
     let mut j: usize = 0;
     while j < n {
@@ -27,7 +25,7 @@ fn set_lanes(levels: &mut [f32; 32], n: usize, x: f32)
 // The phases of n lanes, each at its time.
 fn turns_lanes(turns: &mut [f32; 32], times: &[f32], n: usize, freqratio: f32, f: f32)
     requires { (n ≤ 32) × ((n ≤ length times.now) × (length turns.old ≡ 32)) }
-    ensures { Lanes nan (turned_at freqratio f times.now) n turns.old turns.new }
+    ensures { Lanes (turned_at freqratio f times.now) n turns.old turns.new }
 {
     let mut j: usize = 0;
     while j < n {
@@ -80,8 +78,7 @@ fn release_lanes(
     d: f32,
 )
     requires { (n ≤ 32) × ((n ≤ length times.now) × (length levels.old ≡ 32)) }
-    ensures { Lanes nan (released_at sustain release d times.now) n
-        levels.old levels.new }
+    ensures { Lanes (released_at sustain release d times.now) n levels.old levels.new }
 {
     let mut j: usize = 0;
     while j < n {
@@ -101,8 +98,7 @@ fn decay_lanes(
     sustain: f32,
 )
     requires { (n ≤ 32) × ((n ≤ length times.now) × (length levels.old ≡ 32)) }
-    ensures { Lanes nan (decayed_at attack decay sustain times.now) n
-        levels.old levels.new }
+    ensures { Lanes (decayed_at attack decay sustain times.now) n levels.old levels.new }
 {
     let mut j: usize = 0;
     while j < n {
@@ -115,7 +111,7 @@ fn decay_lanes(
 // The levels of n lanes in the attack.
 fn attack_lanes(levels: &mut [f32; 32], times: &[f32], n: usize, attack: f32)
     requires { (n ≤ 32) × ((n ≤ length times.now) × (length levels.old ≡ 32)) }
-    ensures { Lanes nan (risen_at attack times.now) n levels.old levels.new }
+    ensures { Lanes (risen_at attack times.now) n levels.old levels.new }
 {
     let mut j: usize = 0;
     while j < n {
@@ -128,7 +124,7 @@ fn attack_lanes(levels: &mut [f32; 32], times: &[f32], n: usize, attack: f32)
 // The phases of m lanes, each with its input.
 fn phases_lanes(values: &mut [f32], turns: &[f32; 32], m: usize)
     requires { (m ≤ 32) × (m ≤ length values.old) }
-    ensures { Lanes nan (phase_at turns.now) m values.old values.new }
+    ensures { Lanes (phase_at turns.now) m values.old values.new }
 {
     let mut j: usize = 0;
     while j < m {
@@ -142,7 +138,7 @@ fn phases_lanes(values: &mut [f32], turns: &[f32; 32], m: usize)
 // The sines of m lanes, each at its level.
 fn scaled_lanes(values: &mut [f32], levels: &[f32; 32], m: usize, amplitude: f32)
     requires { (m ≤ 32) × (m ≤ length values.old) }
-    ensures { Lanes nan (scaled_at amplitude levels.now) m values.old values.new }
+    ensures { Lanes (scaled_at amplitude levels.now) m values.old values.new }
 {
     let mut j: usize = 0;
     while j < m {
@@ -163,8 +159,7 @@ fn round_lanes(
     amplitude: f32,
 )
     requires { (m ≤ 32) × (m ≤ length values.old) }
-    ensures { Lanes nan (round_at table.now amplitude levels.now turns.now) m
-        values.old values.new }
+    ensures { Lanes (round_at table.now amplitude levels.now turns.now) m values.old values.new }
 {
     phases_lanes(values, turns, m);
     sines_by(table, &mut values[..m]);
@@ -239,10 +234,7 @@ impl Operator {
         m: usize,
     )
         requires { (m ≤ 32) × (m ≤ length values.old) }
-        ensures { Lanes nan
-            (rounds_at (suc self.feedback)
-            (round_at table.now self.amplitude levels.now turns.now))
-            m values.old values.new }
+        ensures { Lanes (rounds_at (suc self.feedback) (round_at table.now self.amplitude levels.now turns.now)) m values.old values.new }
     {
         let amplitude = self.amplitude;
         let most = self.feedback;

@@ -100,7 +100,7 @@ impl Operator {
     pub fn eval(self, f: f32, d: f32, t: f32, input: f32) -> f32
         ensures { result ≡ operator_at f d t self input }
     {
-        let table = circle::quarter::table();
+        let table = sine::quarter::table();
         self.eval_by(&table, f, d, t, input)
     }
 }

@@ -2,7 +2,7 @@
 -- first at it, what is not finite, and two tables that are not T. A value is written by the bits of its `f32`. Assumes nothing.
 use Rattle.std.proofs.Common.{◌≡◌, ℕ, ◌^◌, true, false, [], ◌∷◌, refl}
 use lib.Ieee.{nan, inf, binary32, round, of_bits}
-use Rattle.circle.specs.Quarter.{quarter}
+use Rattle.sine.specs.Quarter.{quarter}
 use Rattle.sine.specs.Turn.{height, turn_sine_by, turn_sine}
 
 -- the sine of the float with the bits b is the float with the bits r

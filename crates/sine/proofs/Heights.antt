@@ -2,9 +2,9 @@
 -- never the definitions' text; the bounds come of the table's rules. Assumes nothing.
 use Rattle.std.proofs.Common.{◌≡◌, ℕ, ◌+◌, ◌-◌, ◌*◌, ◌/◌, ◌%◌, ◌^◌, ◌<◌, ◌≤◌, Bool, true, false, eqb, List, get_or, le_trans, le_of_lt, mul-le-mul_left, arith, lit≤, eq-eqb, ne_eqb}
 use native.Mathlib.Decide.{ℕ_discrete}
-use Rattle.circle.specs.Quarter.{quarter}
+use Rattle.sine.specs.Quarter.{quarter}
 use Rattle.sine.specs.Turn.{quarter_of, folded, height}
-use Rattle.circle.proofs.Table.{entry, at_most, quarter_wave}
+use Rattle.sine.proofs.Table.{entry, at_most, quarter_wave}
 
 -- ---- folding
 

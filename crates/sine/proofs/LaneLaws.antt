@@ -9,7 +9,7 @@ use lib.Ieee.Fits.{and_l, and_r}
 use lib.Ieee.Nearest.{div_same}
 use Rattle.sine.specs.Turn.{C, folded, height, sine_at, turn_sine_by}
 use Rattle.sine.specs.Phase.{field_of, position_of}
-use Rattle.sine.specs.Lanes.{Lanes, FieldsAre, FoldsEnd, LanesAlike, has_field, having, alike, pattern_of, pattern_at, position_at, fold_at, height_at, signed_of, signed_at, turn_sine_at}
+use Rattle.sine.specs.Lanes.{LanesOf, FieldsAre, FoldsEnd, LanesAlike, has_field, having, alike, pattern_of, pattern_at, position_at, fold_at, height_at, signed_of, signed_at, turn_sine_at}
 use Rattle.sine.proofs.Heights.{folded_le}
 use Rattle.sine.proofs.Phase.{position_some, bits_under}
 use Rattle.sine.proofs.Sine.{sine_not_finite}
@@ -22,11 +22,11 @@ for_more P j f p k l = ⊎_elim {C = P k} (λ q. subst P (sym q) p) (λ q. f k q
 
 module _ {A : Type 0} {none : A} (h : ℕ → A → A) where
   -- no lane yet
-  pub lanes_none : (xs : List A) → Lanes none h 0 xs xs
+  pub lanes_none : (xs : List A) → LanesOf none h 0 xs xs
   lanes_none xs = record { done = λ j l. absurd (omega arith); kept = λ j l. refl; size = refl }
 
   -- one more lane
-  pub lanes_more : (j : ℕ) (xs ys : List A) (y : A) → j < length xs → Lanes none h j xs ys → y ≡ h j (get_or ys j none) → Lanes none h (j + 1) xs (set ys j y)
+  pub lanes_more : (j : ℕ) (xs ys : List A) (y : A) → j < length xs → LanesOf none h j xs ys → y ≡ h j (get_or ys j none) → LanesOf none h (j + 1) xs (set ys j y)
   lanes_more j xs ys y l r e =
       record {
         done =
@@ -38,11 +38,11 @@ module _ {A : Type 0} {none : A} (h : ℕ → A → A) where
       }
 
   -- so many lanes by another name
-  pub lanes_to : (j n : ℕ) (xs ys : List A) → j ≡ n → Lanes none h j xs ys → Lanes none h n xs ys
-  lanes_to j n xs ys e r = subst (λ (k : ℕ). Lanes none h k xs ys) e r
+  pub lanes_to : (j n : ℕ) (xs ys : List A) → j ≡ n → LanesOf none h j xs ys → LanesOf none h n xs ys
+  lanes_to j n xs ys e r = subst (λ (k : ℕ). LanesOf none h k xs ys) e r
 
   -- the same lanes by another name
-  pub lanes_same : (g : ℕ → A → A) (n : ℕ) (xs ys : List A) → ((j : ℕ) (x : A) → j < n → g j x ≡ h j x) → Lanes none g n xs ys → Lanes none h n xs ys
+  pub lanes_same : (g : ℕ → A → A) (n : ℕ) (xs ys : List A) → ((j : ℕ) (x : A) → j < n → g j x ≡ h j x) → LanesOf none g n xs ys → LanesOf none h n xs ys
   lanes_same g n xs ys e r = record { done = λ j l. r.done j l ∙ e j (get_or xs j none) l; kept = r.kept; size = r.size }
 
 -- ---- a list of lanes that all do the same
@@ -53,12 +53,12 @@ module _ {A : Type 0} (none : A) (f : A → A) (same : f none ≡ none) where
   lane_mapped xs j = subst (λ (d : A). get_or (map f xs) j d ≡ f (get_or xs j none)) same (get_or-map f xs j none)
 
   -- where all lanes are done the list is mapped
-  pub lanes_mapped : (xs ys : List A) → Lanes none (λ _. f) (length xs) xs ys → ys ≡ map f xs
+  pub lanes_mapped : (xs ys : List A) → LanesOf none (λ _. f) (length xs) xs ys → ys ≡ map f xs
   lanes_mapped xs ys r =
       ext_get_or none ys (map f xs) (r.size ∙ sym (length-map xs f)) (λ j l. r.done j (omega (arith, r.size)) ∙ sym (lane_mapped xs j))
 
   -- where the front of a list is mapped, that many lanes are done
-  pub front_mapped : (n : ℕ) (xs ys : List A) → n ≤ length xs → ys ≡ map f (take n xs) → Lanes none (λ _. f) n xs (ys ++ drop n xs)
+  pub front_mapped : (n : ℕ) (xs ys : List A) → n ≤ length xs → ys ≡ map f (take n xs) → LanesOf none (λ _. f) n xs (ys ++ drop n xs)
   front_mapped n xs ys l e =
       record {
         done = λ j p. get_or-append ys (drop n xs) none j (omega (arith, size)) ∙ ap (λ (zs : List A). get_or zs j none) e ∙ lane_mapped (take n xs) j ∙ ap f (get_or-take n xs j none p);
@@ -74,11 +74,11 @@ module _ {A : Type 0} (none : A) (f : A → A) (same : f none ≡ none) where
       size = ap length e ∙ length-map (take n xs) f ∙ length-take-le n xs l
 
 -- the sine of NaN is NaN, so a list of sines is one of lanes
-pub sines_mapped : (table : List ℕ) (xs ys : List Float) → Lanes nan (turn_sine_at table) (length xs) xs ys → ys ≡ map (turn_sine_by table) xs
+pub sines_mapped : (table : List ℕ) (xs ys : List Float) → LanesOf nan (turn_sine_at table) (length xs) xs ys → ys ≡ map (turn_sine_by table) xs
 unfolding turn_sine_at
 sines_mapped table xs ys r = lanes_mapped nan (turn_sine_by table) (sine_not_finite table nan tt) xs ys r
 
-pub front_sines : (table : List ℕ) (n : ℕ) (xs ys : List Float) → n ≤ length xs → ys ≡ map (turn_sine_by table) (take n xs) → Lanes nan (turn_sine_at table) n xs (ys ++ drop n xs)
+pub front_sines : (table : List ℕ) (n : ℕ) (xs ys : List Float) → n ≤ length xs → ys ≡ map (turn_sine_by table) (take n xs) → LanesOf nan (turn_sine_at table) n xs (ys ++ drop n xs)
 unfolding turn_sine_at
 front_sines table n xs ys l e = front_mapped nan (turn_sine_by table) (sine_not_finite table nan tt) n xs ys l e
 
@@ -192,7 +192,7 @@ position_narrow b d l e =
 -- ---- the steps one after the other
 
 -- each fold ends at the crest
-pub folds_end : (positions blank folds : List ℕ) (n : ℕ) → Lanes 0 (fold_at positions) n blank folds → FoldsEnd n folds
+pub folds_end : (positions blank folds : List ℕ) (n : ℕ) → LanesOf 0 (fold_at positions) n blank folds → FoldsEnd n folds
 unfolding fold_at
 folds_end positions blank folds n r j l = rw (r.done j l) (folded_le (get_or positions j 0))
 
@@ -205,8 +205,8 @@ one table x b p s f eb l h ep es =
     subst (λ (y : Float). signed_of s b p ≡ turn_sine_by table y) q (rw (es, bits_under b table h, ep))
 
 pub sines_lanes : (table : List ℕ) (values after : List Float) (d : ℕ) (bits none positions none2 folds heights : List ℕ) → LanesAlike values bits → FieldsAre d (length values) bits
-    → Lanes 0 (position_at bits) (length values) none positions → Lanes 0 (fold_at positions) (length values) none2 folds → Lanes 0 (height_at table) (length values) folds heights
-    → Lanes nan (signed_at heights bits positions) (length values) values after → Lanes nan (turn_sine_at table) (length values) values after
+    → LanesOf 0 (position_at bits) (length values) none positions → LanesOf 0 (fold_at positions) (length values) none2 folds → LanesOf 0 (height_at table) (length values) folds heights
+    → LanesOf nan (signed_at heights bits positions) (length values) values after → LanesOf nan (turn_sine_at table) (length values) values after
 unfolding position_at fold_at height_at signed_at turn_sine_at
 sines_lanes table values after d bits none positions none2 folds heights a es ps us ss r =
     record {

@@ -9,7 +9,7 @@ use lib.Ieee.Fits.{down_pos, nan-fits, round-fits, eq→eqb}
 use lib.Ieee.Scale.{finite}
 use Rattle.ieee.specs.Constants.{minus_one, minus_zero, one, plus_zero}
 use Rattle.ieee.proofs.Sign.{round_neg}
-use Rattle.circle.specs.Quarter.{quarter}
+use Rattle.sine.specs.Quarter.{quarter}
 use Rattle.sine.specs.Turn.{position, quarter_of, folded, height, sine_at, turn_sine_by, turn_sine}
 use Rattle.sine.proofs.Heights.{folded_le, height_le}
 

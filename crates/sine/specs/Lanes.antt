@@ -7,7 +7,7 @@ use Rattle.sine.specs.Turn.{quarter_of, folded, height, turn_sine_by}
 use Rattle.sine.specs.Phase.{field_of, position_of}
 
 -- the first n lanes have h's value of what they had, and the others what they had; past its end a list has `none`
-pub record Lanes {A : Type 0} (none : A) (h : ℕ → A → A) (n : ℕ) (before after : List A) : Type 0 where
+pub record LanesOf {A : Type 0} (none : A) (h : ℕ → A → A) (n : ℕ) (before after : List A) : Type 0 where
   pub done : (j : ℕ) → j < n → slice_index_or after j none ≡ h j (slice_index_or before j none)
   pub kept : (j : ℕ) → n ≤ j → slice_index_or after j none ≡ slice_index_or before j none
   pub size : length after ≡ length before

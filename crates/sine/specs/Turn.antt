@@ -5,7 +5,7 @@ use Rattle.std.specs.Prelude.{ℕ, ◌+◌, ◌-◌, ◌*◌, ◌/◌, ◌%◌, 
 use Rattle.std.specs.Float.{nan, inf, fin, binary32}
 use Rattle.std.specs.Float.Ieee.{up, down, unlike, round}
 use Rattle.ieee.specs.Constants.{plus_zero}
-use Rattle.circle.specs.Quarter.{quarter}
+use Rattle.sine.specs.Quarter.{quarter}
 
 -- "the whole number nearest 2^62 / (2 pi)"
 unfoldable pub C : ℕ

@@ -7,7 +7,7 @@ ghost use Rattle.std.specs.Float.{nan, binary32};
 ghost use Rattle.std.specs.Float.Ieee.{fits};
 ghost use Rattle.sine.specs.Turn.{turn_sine_by};
 ghost use Rattle.sine.specs.Phase.{field_of, position_of};
-ghost use Rattle.sine.specs.Lanes.{Lanes, FloatsFit, FieldsAre, FoldsEnd, LanesAlike, has_field, having, alike, pattern_of};
+ghost use Rattle.sine.specs.Lanes.{LanesOf, FloatsFit, FieldsAre, FoldsEnd, LanesAlike, has_field, having, alike, pattern_of};
 ghost use Rattle.sine.specs.Lanes.{pattern_at, position_at, fold_at, height_at, signed_of, signed_at, turn_sine_at};
 
 use crate::turn::{LOWEST_FIELD, field, fold, height_by, phase, sine_by, unit};
@@ -32,7 +32,7 @@ fn pattern(x: f32) -> u32
 // The bits of all lanes.
 fn patterns(bits: &mut [u32; 32], values: &[f32])
     requires { (length values.now ≤ 32) × (length bits.old ≡ 32) }
-    ensures bits { Lanes 0 (pattern_at values.now) (length values.now)
+    ensures bits { LanesOf 0 (pattern_at values.now) (length values.now)
         bits.old bits.new }
     ensures fits { FloatsFit (length values.now) values.now }
 {
@@ -97,7 +97,7 @@ fn position_down(bits: u32, down: u64) -> u32
 // The positions of n lanes.
 fn positions_lanes(positions: &mut [u32; 32], bits: &[u32; 32], n: usize, down: u64)
     requires { (n ≤ 32) × ((length positions.old ≡ 32) × FieldsAre down n bits.now) }
-    ensures { Lanes 0 (position_at bits.now) n positions.old positions.new }
+    ensures { LanesOf 0 (position_at bits.now) n positions.old positions.new }
 {
     let mut j: usize = 0;
     while j < n {
@@ -110,7 +110,7 @@ fn positions_lanes(positions: &mut [u32; 32], bits: &[u32; 32], n: usize, down: 
 // How far the positions of n lanes lie from the nearest zero of the sine.
 fn folds_lanes(folds: &mut [u32; 32], positions: &[u32; 32], n: usize)
     requires { (n ≤ 32) × (length folds.old ≡ 32) }
-    ensures { Lanes 0 (fold_at positions.now) n folds.old folds.new }
+    ensures { LanesOf 0 (fold_at positions.now) n folds.old folds.new }
 {
     let mut j: usize = 0;
     while j < n {
@@ -123,7 +123,7 @@ fn folds_lanes(folds: &mut [u32; 32], positions: &[u32; 32], n: usize)
 // The heights of n lanes, each in its fold's place.
 fn heights_lanes(folds: &mut [u32; 32], table: &[u32; 1025], n: usize)
     requires { (n ≤ 32) × ((length folds.old ≡ 32) × FoldsEnd n folds.old) }
-    ensures { Lanes 0 (height_at table.now) n folds.old folds.new }
+    ensures { LanesOf 0 (height_at table.now) n folds.old folds.new }
 {
     let mut j: usize = 0;
     while j < n {
@@ -143,7 +143,7 @@ fn signed(s: u32, bits: u32, p: u32) -> f32
 // The sines of all lanes by their heights and signs.
 fn signed_lanes(values: &mut [f32], heights: &[u32; 32], bits: &[u32; 32], positions: &[u32; 32])
     requires { length values.old ≤ 32 }
-    ensures { Lanes nan (signed_at heights.now bits.now positions.now)
+    ensures { LanesOf nan (signed_at heights.now bits.now positions.now)
         (length values.old) values.old values.new }
 {
     let mut j: usize = 0;
@@ -158,7 +158,7 @@ fn signed_lanes(values: &mut [f32], heights: &[u32; 32], bits: &[u32; 32], posit
 
 // The sines of all lanes, one after the other.
 fn each_lane(table: &[u32; 1025], values: &mut [f32])
-    ensures { Lanes nan (turn_sine_at table.now) (length values.old)
+    ensures { LanesOf nan (turn_sine_at table.now) (length values.old)
         values.old values.new }
 {
     let mut j: usize = 0;
@@ -172,7 +172,7 @@ fn each_lane(table: &[u32; 1025], values: &mut [f32])
 // The sines of all lanes, whose patterns are alike: each step in all lanes before the next.
 fn sines_alike(table: &[u32; 1025], values: &mut [f32], bits: &[u32; 32])
     requires { LanesAlike values.old bits.now }
-    ensures { Lanes nan (turn_sine_at table.now) (length values.old)
+    ensures { LanesOf nan (turn_sine_at table.now) (length values.old)
         values.old values.new }
 {
     let n = values.len();

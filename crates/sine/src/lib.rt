@@ -3,4 +3,5 @@
 #![tactic(auto)]
 
 pub mod lanes;
+pub mod quarter;
 pub mod turn;

@@ -7,11 +7,7 @@ ghost use Rattle.std.specs.Float.Ieee.{of_int, unlike};
 ghost use Rattle.sine.specs.Turn.{C, quarter_of, folded, height, turn_sine_by, turn_sine};
 ghost use Rattle.sine.specs.Phase.{field_of, position_of};
 
-use circle::quarter;
-
-// The whole number nearest 2^62 / (2 pi): how many positions, in units of 2^-30, one radian is. An independent program
-// recomputes it.
-const C: u64 = 733972625820500307;
+use crate::quarter;
 
 // The exponent's field of the numbers from 2^-32 to below 2^-31, the lowest whose positions need not be 0.
 pub(crate) const LOWEST_FIELD: u32 = 95;
@@ -72,8 +68,8 @@ pub(crate) fn phase(m: u64, j: u64) -> u32
     requires { (m < 2 ^ 33) × (j < 64) }
     ensures { result ≡ m * C / 2 ^ (31 + j) % 2 ^ 32 }
 {
-    let high = m * (C / 0x8000_0000);
-    let low = m * (C % 0x8000_0000) / 0x8000_0000 + (high & ((1 << j) - 1));
+    let high = m * (quarter::C / 0x8000_0000);
+    let low = m * (quarter::C % 0x8000_0000) / 0x8000_0000 + (high & ((1 << j) - 1));
     std::num::wrapping_add_u32(
         ((high >> j) % 0x1_0000_0000) as u32,
         ((low >> j) % 0x1_0000_0000) as u32,

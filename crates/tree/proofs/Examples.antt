@@ -10,7 +10,7 @@ use lib.IntN.{negsuc}
 use lib.Ieee.{Float, fin, binary32, round, add, sub, mul, div, lt, of_bits, to_bits}
 use Rattle.ieee.specs.Constants.{one, plus_zero}
 use Rattle.sine.specs.Turn.{turn_sine_by}
-use Rattle.circle.specs.Quarter.{quarter}
+use Rattle.sine.specs.Quarter.{quarter}
 use Rattle.operator.specs.declared.operator.Operator.{Operator}
 use Rattle.instrument.specs.declared.machine.Command.{Command}
 use Rattle.instrument.specs.declared.machine.Command.TheVariants as Command

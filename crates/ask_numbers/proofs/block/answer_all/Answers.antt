@@ -55,9 +55,9 @@ loop-i-preserved c =
       ),
     )
 
-pub returns : goal.returns
-returns c =
-    let s = c.args.requests.now in
+pub returns-clause-prefix_len : goal.returns-clause-prefix_len
+returns-clause-prefix_len c =
+    (let s = c.args.requests.now in
     let n = c.least-n.result in
     let l = c.loop-i in
     let e : n * 16 / 16 ≡ n = omega arith in (
@@ -66,4 +66,31 @@ returns c =
         ap (λ (k : ℕ). k * 16) c.least-n.ensures,
         all_done s l.out l.i (n - l.i) (omega arith) ∙ rw e l.invariant.1.1.1.1,
       ),
-    )
+    )).0
+
+pub returns-clause-value : goal.returns-clause-value
+returns-clause-value c =
+    (let s = c.args.requests.now in
+    let n = c.least-n.result in
+    let l = c.loop-i in
+    let e : n * 16 / 16 ≡ n = omega arith in (
+      prefix_len_of_le (n * 16) l.out (omega arith),
+      (
+        ap (λ (k : ℕ). k * 16) c.least-n.ensures,
+        all_done s l.out l.i (n - l.i) (omega arith) ∙ rw e l.invariant.1.1.1.1,
+      ),
+    )).1
+
+pub returns-clause-out_after : goal.returns-clause-out_after
+returns-clause-out_after c =
+    (let s = c.args.requests.now in
+    let n = c.least-n.result in
+    let l = c.loop-i in
+    let e : n * 16 / 16 ≡ n = omega arith in (
+      prefix_len_of_le (n * 16) l.out (omega arith),
+      (
+        ap (λ (k : ℕ). k * 16) c.least-n.ensures,
+        all_done s l.out l.i (n - l.i) (omega arith) ∙ rw e l.invariant.1.1.1.1,
+      ),
+    )).2
+

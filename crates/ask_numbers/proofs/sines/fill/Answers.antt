@@ -1,7 +1,7 @@
 -- `fill` gives one lane after the other the number of the next pattern. Assumes nothing.
 use Rattle.std.proofs.Common.{◌≡◌, ℕ, ◌+◌, ◌-◌, ◌%◌, ◌^◌, ◌≤◌, ap, ◌∙◌, arith, rules}
 use lib.Ieee.{nan, binary32, of_bits}
-use Rattle.sine.specs.Lanes.{Lanes}
+use Rattle.sine.specs.Lanes.{LanesOf}
 use Rattle.sine.proofs.LaneLaws.{lanes_none, lanes_more, lanes_to}
 use Rattle.ask_numbers.specs.Sines.{float_from}
 use Rattle.ask_numbers.proofs.sines.fill.Goals as goal

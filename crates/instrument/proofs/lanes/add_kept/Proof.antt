@@ -2,14 +2,14 @@
 -- Assumes nothing.
 use Rattle.std.proofs.Common.{◌≡◌, ℕ, ◌-◌, ◌≤◌, length, refl, subst, arith, rules}
 use lib.Ieee.{nan}
-use Rattle.sine.specs.Lanes.{Lanes}
-use Rattle.sine.proofs.LaneLaws.{lanes_none, lanes_more}
+use Rattle.operator.specs.Lanes.{Lanes}
+use Rattle.operator.proofs.LaneLaws.{lanes_none, lanes_more}
 use Rattle.instrument.specs.Lanes.{plus_kept}
 use Rattle.instrument.proofs.lanes.add_kept.Statement.{statement}
 use Rattle.instrument.proofs.lanes.add_kept.Tie as tie
 
 abbrev invariant-loop : tie.invariant-loop
-invariant-loop values₀ saved from j₀ values j = (j ≤ length values₀) × Lanes nan (plus_kept saved from) j values₀ values
+invariant-loop values₀ saved from j₀ values j = (j ≤ length values₀) × Lanes (plus_kept saved from) j values₀ values
 
 abbrev decreases-loop : tie.decreases-loop
 decreases-loop values₀ saved from j₀ values j = length values₀ - j
@@ -59,7 +59,7 @@ returns c =
     let a = c.before.before.args in
     let l = c.before.loop in
     let e : l.j ≡ length a.values.now = omega (arith, l.invariant.0, l.invariant.1.size, c.loop-test.false) in
-    subst (λ (k : ℕ). Lanes nan (plus_kept a.saved.now a.from) k a.values.now l.values) e l.invariant.1
+    subst (λ (k : ℕ). Lanes (plus_kept a.saved.now a.from) k a.values.now l.values) e l.invariant.1
 
 pub add-kept-spec : {M : Type 1} → statement M
 add-kept-spec =

@@ -3,14 +3,14 @@
 use Rattle.std.proofs.Common.{◌≡◌, ℕ, ◌-◌, ◌≤◌, length, refl, subst, arith, rules}
 use lib.Ieee.{nan, of_bits}
 use Rattle.ieee.specs.Constants.{plus_zero}
-use Rattle.sine.specs.Lanes.{Lanes}
+use Rattle.operator.specs.Lanes.{Lanes}
 use Rattle.operator.specs.Lanes.{always}
-use Rattle.sine.proofs.LaneLaws.{lanes_none, lanes_more}
+use Rattle.operator.proofs.LaneLaws.{lanes_none, lanes_more}
 use Rattle.instrument.proofs.lanes.clear.Statement.{statement}
 use Rattle.instrument.proofs.lanes.clear.Tie as tie
 
 abbrev invariant-loop : tie.invariant-loop
-invariant-loop values₀ j₀ values j = (j ≤ length values₀) × Lanes nan (always plus_zero) j values₀ values
+invariant-loop values₀ j₀ values j = (j ≤ length values₀) × Lanes (always plus_zero) j values₀ values
 
 abbrev decreases-loop : tie.decreases-loop
 decreases-loop values₀ j₀ values j = length values₀ - j
@@ -45,7 +45,7 @@ returns c =
     let a = c.before.before.args in
     let l = c.before.loop in
     let e : l.j ≡ length a.values.now = omega (arith, l.invariant.0, l.invariant.1.size, c.loop-test.false) in
-    subst (λ (k : ℕ). Lanes nan (always plus_zero) k a.values.now l.values) e l.invariant.1
+    subst (λ (k : ℕ). Lanes (always plus_zero) k a.values.now l.values) e l.invariant.1
 
 pub clear_spec : {M : Type 1} → statement M
 clear_spec =

@@ -4,8 +4,8 @@ use Rattle.std.proofs.Common.{◌≡◌, ℕ, ◌+◌, ◌-◌, ◌≤◌, ℤ, 
 use borrow.Author.Rules.{sfits_of}
 use mir.ValLaws.{to_z_pos}
 use lib.Ieee.{nan, in_float, binary32, mul, of_int}
-use Rattle.sine.specs.Lanes.{Lanes}
-use Rattle.sine.proofs.LaneLaws.{lanes_none, lanes_more}
+use Rattle.operator.specs.Lanes.{Lanes}
+use Rattle.operator.proofs.LaneLaws.{lanes_none, lanes_more}
 use Rattle.instrument.specs.Lanes.{timed}
 use Rattle.instrument.proofs.lanes.times_from.Statement.{statement}
 use Rattle.instrument.proofs.lanes.times_from.Tie as tie
@@ -15,7 +15,7 @@ signed : (n : ℕ) → n ≤ 16777216 → to_z w32 n ≡ pos n
 signed n h = to_z_pos w32 n (omega arith)
 
 abbrev invariant-loop : tie.invariant-loop
-invariant-loop times₀ first n unit j₀ times j = (j ≤ n) × Lanes nan (timed first unit) j times₀ times
+invariant-loop times₀ first n unit j₀ times j = (j ≤ n) × Lanes (timed first unit) j times₀ times
 
 abbrev decreases-loop : tie.decreases-loop
 decreases-loop times₀ first n unit j₀ times j = n - j
@@ -70,7 +70,7 @@ returns c =
     let a = c.before.before.args in
     let l = c.before.loop in
     let e : l.j ≡ a.n = omega (arith, l.invariant.0, c.loop-test.false) in
-    subst (λ (k : ℕ). Lanes nan (timed a.first a.unit) k a.times.now l.times) e l.invariant.1
+    subst (λ (k : ℕ). Lanes (timed a.first a.unit) k a.times.now l.times) e l.invariant.1
 
 pub times-from-spec : {M : Type 1} → statement M
 times-from-spec =

@@ -3,11 +3,9 @@
 use mathlib.Core.Path.{◌≡◌, subst}
 use Prim.Native.Nat.{ℕ, ◌-◌, ◌≤◌}
 use native.Mathlib.Omega.{arith}
-use lib.Ieee.{nan}
 use borrow.Author.Rules.{rules}
-use Rattle.sine.specs.Lanes.{Lanes}
-use Rattle.operator.specs.Lanes.{decayed_at}
-use Rattle.sine.proofs.LaneLaws.{lanes_none, lanes_more}
+use Rattle.operator.specs.Lanes.{Lanes, decayed_at}
+use Rattle.operator.proofs.LaneLaws.{lanes_none, lanes_more}
 use Rattle.operator.proofs.lanes.decay_lanes.Goals as goal
 
 pub loop-j-init : goal.loop-j-init
@@ -26,4 +24,4 @@ returns c =
     let a = c.args in
     let l = c.loop-j in
     let e : l.j ≡ a.n = omega (arith, l.invariant.0, c.loop-j-test.false) in
-    subst (λ (k : ℕ). Lanes nan (decayed_at a.attack a.decay a.sustain a.times.now) k a.levels.now l.levels) e l.invariant.1
+    subst (λ (k : ℕ). Lanes (decayed_at a.attack a.decay a.sustain a.times.now) k a.levels.now l.levels) e l.invariant.1

@@ -3,9 +3,8 @@ use mathlib.Core.Path.{refl}
 use Prim.Native.Nat.{◌-◌, ◌≤◌}
 use native.Mathlib.Omega.{arith}
 use lib.Ieee.{nan}
-use Rattle.sine.specs.Lanes.{Lanes}
-use Rattle.sine.proofs.LaneLaws.{lanes_none, lanes_more, lanes_to}
-use Rattle.operator.specs.Lanes.{phase_at}
+use Rattle.operator.proofs.LaneLaws.{lanes_none, lanes_more, lanes_to}
+use Rattle.operator.specs.Lanes.{Lanes, phase_at}
 use borrow.Author.Rules.{rules}
 use Rattle.operator.proofs.lanes.phases_lanes.Goals as goal
 

@@ -16,6 +16,6 @@ pub returns : goal.returns
 returns c =
     let a = c.args in
     let p = c.phases_lanes in
-    round_steps a.table.now a.amplitude a.levels.now a.turns.now a.m a.values.now p.new.0 _ _ p.ensures
-    (front_sines a.table.now a.m p.new.0 _ (omega (arith, c.requires.1, p.ensures.size)) c.sines_by.ensures)
+    round_steps a.table.now a.amplitude a.levels.now a.turns.now a.m a.values.now p.new.values _ _ p.ensures
+    (front_sines a.table.now a.m p.new.values _ (omega (arith, c.requires.1, p.ensures.size)) c.sines_by.ensures)
     c.scaled_lanes.ensures

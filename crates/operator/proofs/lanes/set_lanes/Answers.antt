@@ -3,11 +3,9 @@
 use mathlib.Core.Path.{◌≡◌, refl, subst}
 use Prim.Native.Nat.{ℕ, ◌-◌, ◌≤◌}
 use native.Mathlib.Omega.{arith}
-use lib.Ieee.{nan}
 use borrow.Author.Rules.{rules}
-use Rattle.sine.specs.Lanes.{Lanes}
-use Rattle.operator.specs.Lanes.{always}
-use Rattle.sine.proofs.LaneLaws.{lanes_none, lanes_more}
+use Rattle.operator.specs.Lanes.{Lanes, always}
+use Rattle.operator.proofs.LaneLaws.{lanes_none, lanes_more}
 use Rattle.operator.proofs.lanes.set_lanes.Goals as goal
 
 pub loop-j-init : goal.loop-j-init
@@ -25,4 +23,4 @@ returns c =
     let a = c.args in
     let l = c.loop-j in
     let e : l.j ≡ a.n = omega arith in
-    subst (λ (k : ℕ). Lanes nan (always a.x) k a.levels.now l.levels) e l.invariant.1
+    subst (λ (k : ℕ). Lanes (always a.x) k a.levels.now l.levels) e l.invariant.1

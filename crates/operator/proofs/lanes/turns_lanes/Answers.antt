@@ -4,11 +4,10 @@ use mathlib.Core.Path.{◌≡◌, refl, subst}
 use Prim.Native.Nat.{ℕ, ◌-◌, ◌≤◌}
 use native.Mathlib.Omega.{arith}
 use borrow.Author.Rules.{rules}
-use lib.Ieee.{nan, of_bits}
+use lib.Ieee.{of_bits}
 use Rattle.operator.specs.Evaluation.{two_pi}
-use Rattle.sine.specs.Lanes.{Lanes}
-use Rattle.operator.specs.Lanes.{turned_at}
-use Rattle.sine.proofs.LaneLaws.{lanes_none, lanes_more}
+use Rattle.operator.specs.Lanes.{Lanes, turned_at}
+use Rattle.operator.proofs.LaneLaws.{lanes_none, lanes_more}
 use Rattle.operator.proofs.lanes.turns_lanes.Goals as goal
 
 pub loop-j-init : goal.loop-j-init
@@ -26,4 +25,4 @@ returns c =
     let a = c.args in
     let l = c.loop-j in
     let e : l.j ≡ a.n = omega arith in
-    subst (λ (k : ℕ). Lanes nan (turned_at a.freqratio a.f a.times.now) k a.turns.now l.turns) e l.invariant.1
+    subst (λ (k : ℕ). Lanes (turned_at a.freqratio a.f a.times.now) k a.turns.now l.turns) e l.invariant.1

@@ -1,11 +1,11 @@
 -- `patterns` gives one lane after the other its bits. Assumes nothing.
 use Rattle.std.proofs.Common.{◌≡◌, ℕ, ◌-◌, ◌≤◌, length, subst, arith, rules}
-use Rattle.sine.specs.Lanes.{Lanes, FloatsFit, pattern_at}
+use Rattle.sine.specs.Lanes.{LanesOf, FloatsFit, pattern_at}
 use Rattle.sine.proofs.LaneLaws.{for_more, lanes_none, lanes_more, lanes_to}
 use Rattle.sine.proofs.lanes.patterns.Given as goal
 
 abbrev pub invariant-loop-j : goal.invariant-loop-j
-invariant-loop-j l = (l.j ≤ length l.values) × Lanes 0 (pattern_at l.values) l.j l.initial.bits l.bits × FloatsFit l.j l.values
+invariant-loop-j l = (l.j ≤ length l.values) × LanesOf 0 (pattern_at l.values) l.j l.initial.bits l.bits × FloatsFit l.j l.values
 
 abbrev pub decreases-loop-j : goal.decreases-loop-j
 decreases-loop-j l = length l.values - l.j

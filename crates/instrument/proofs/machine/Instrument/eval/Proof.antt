@@ -4,7 +4,7 @@ use Rattle.std.proofs.Common.{◌≡◌, ℕ, zero, suc, ◌-◌, ◌<◌, ◌�
 use lib.ListN.{length-map}
 use lib.Ieee.{Float, nan, of_bits}
 use Rattle.ieee.specs.Constants.{plus_zero}
-use Rattle.circle.specs.Quarter.{quarter}
+use Rattle.sine.specs.Quarter.{quarter}
 use Rattle.instrument.specs.Lent.{instrument_by}
 use Rattle.instrument.proofs.Turns.{place_fits, next_fits, more, less, below_64, shallower, reaches, under, below_most}
 use Rattle.instrument.proofs.Lent.{instrument_quarter}

@@ -3,10 +3,8 @@
 use mathlib.Core.Path.{◌≡◌, subst, ◌∙◌}
 use Prim.Native.Nat.{ℕ, suc, ◌-◌, ◌≤◌}
 use native.Mathlib.Omega.{arith}
-use lib.Ieee.{nan}
 use borrow.Author.Rules.{rules}
-use Rattle.sine.specs.Lanes.{Lanes}
-use Rattle.operator.specs.Lanes.{round_at, rounds_at}
+use Rattle.operator.specs.Lanes.{Lanes, round_at, rounds_at}
 use Rattle.operator.proofs.LaneLaws.{rounds_none, lanes_first, lanes_round}
 use Rattle.operator.proofs.operator.Operator.rounds_lanes.Goals as goal
 
@@ -32,4 +30,4 @@ returns c =
     let a = c.args in
     let l = c.loop-r in
     let e : l.r ≡ a.self.feedback = omega (arith, l.invariant.0, c.loop-r-test.false) in
-    subst (λ (k : ℕ). Lanes nan (rounds_at (suc k) (round_at a.table.now a.self.amplitude a.levels.now a.turns.now)) a.m a.values.now l.values) e (lanes_first _ l.r a.m a.values.now _ l.values c.round_lanes.ensures l.invariant.1)
+    subst (λ (k : ℕ). Lanes (rounds_at (suc k) (round_at a.table.now a.self.amplitude a.levels.now a.turns.now)) a.m a.values.now l.values) e (lanes_first _ l.r a.m a.values.now _ l.values c.round_lanes.ensures l.invariant.1)

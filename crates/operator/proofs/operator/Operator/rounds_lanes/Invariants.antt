@@ -3,16 +3,14 @@
 use mathlib.Core.Path.{◌≡◌, subst, ◌∙◌}
 use Prim.Native.Nat.{ℕ, suc, ◌-◌, ◌≤◌}
 use native.Mathlib.Omega.{arith}
-use lib.Ieee.{nan}
 use borrow.Author.Rules.{rules}
-use Rattle.sine.specs.Lanes.{Lanes}
-use Rattle.operator.specs.Lanes.{round_at, rounds_at}
+use Rattle.operator.specs.Lanes.{Lanes, round_at, rounds_at}
 use Rattle.operator.proofs.LaneLaws.{rounds_none, lanes_first, lanes_round}
 use Rattle.operator.proofs.operator.Operator.rounds_lanes.Given as goal
 
 abbrev pub invariant-loop-r : goal.invariant-loop-r
 invariant-loop-r l =
-    (l.r ≤ l.most) × Lanes nan (rounds_at l.r (round_at l.table l.amplitude l.levels l.turns)) l.m l.initial.values l.values
+    (l.r ≤ l.most) × Lanes (rounds_at l.r (round_at l.table l.amplitude l.levels l.turns)) l.m l.initial.values l.values
 
 abbrev pub decreases-loop-r : goal.decreases-loop-r
 decreases-loop-r l = l.most - l.r

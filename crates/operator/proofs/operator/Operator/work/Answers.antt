@@ -6,11 +6,9 @@ use Prim.Native.Nat.{◌-◌, ◌≤◌, min}
 use native.Mathlib.Omega.{arith}
 use borrow.Author.Rules.{rules}
 use lib.ListN.{length, length-set}
-use lib.Ieee.{nan, Float}
-use Rattle.sine.specs.Lanes.{Lanes}
-use Rattle.operator.specs.Lanes.{worked_at}
-use Rattle.sine.proofs.LaneLaws.{lanes_more}
-use Rattle.operator.proofs.LaneLaws.{lanes_over}
+use lib.Ieee.{Float}
+use Rattle.operator.specs.Lanes.{Lanes, worked_at}
+use Rattle.operator.proofs.LaneLaws.{lanes_more, lanes_over}
 use Rattle.operator.proofs.operator.Operator.work.Goals as goal
 
 pub work_front-j-requires : goal.work_front-j-requires

@@ -6,17 +6,15 @@ use Prim.Native.Nat.{◌-◌, ◌≤◌, min}
 use native.Mathlib.Omega.{arith}
 use borrow.Author.Rules.{rules}
 use lib.ListN.{length, length-set}
-use lib.Ieee.{nan, Float}
-use Rattle.sine.specs.Lanes.{Lanes}
-use Rattle.operator.specs.Lanes.{worked_at}
-use Rattle.sine.proofs.LaneLaws.{lanes_more}
-use Rattle.operator.proofs.LaneLaws.{lanes_over}
+use lib.Ieee.{Float}
+use Rattle.operator.specs.Lanes.{Lanes, worked_at}
+use Rattle.operator.proofs.LaneLaws.{lanes_more, lanes_over}
 use Rattle.operator.proofs.operator.Operator.work.Given as goal
 
 -- whatever came in, of which the lanes up to the first turn's are worked on, is worked on up to this turn's
 abbrev pub invariant-loop-j : goal.invariant-loop-j
 invariant-loop-j l =
-    (l.j ≤ l.n) × (l.n ≤ length l.initial.values) × (length l.values ≡ length l.initial.values) × ((xs : List Float) → Lanes nan (worked_at l.table l.self l.f l.d l.times) l.initial.j xs l.initial.values → Lanes nan (worked_at l.table l.self l.f l.d l.times) l.j xs l.values)
+    (l.j ≤ l.n) × (l.n ≤ length l.initial.values) × (length l.values ≡ length l.initial.values) × ((xs : List Float) → Lanes (worked_at l.table l.self l.f l.d l.times) l.initial.j xs l.initial.values → Lanes (worked_at l.table l.self l.f l.d l.times) l.j xs l.values)
 
 abbrev pub decreases-loop-j : goal.decreases-loop-j
 decreases-loop-j l = l.n - l.j

@@ -3,8 +3,7 @@
 use mathlib.Core.Path.{refl}
 use native.Mathlib.Omega.{arith}
 use borrow.Author.Rules.{rules}
-use Rattle.sine.proofs.LaneLaws.{lanes_none}
-use Rattle.operator.proofs.LaneLaws.{lanes_work}
+use Rattle.operator.proofs.LaneLaws.{lanes_none, lanes_work}
 use Rattle.operator.proofs.operator.Operator.work_front.Goals as goal
 
 pub returns-then-n-lt4 : goal.returns-then-n-lt4

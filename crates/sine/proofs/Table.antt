@@ -1,17 +1,12 @@
 -- The rules of document 01 over the quarter wave, each proved by one test that antt computes over the whole table:
 -- "T[0] = 0, T[1024] = 2^24, it rises, second differences lie from −41 to 2, and T[i]² + T[1024−i]² is less than 2^25
 -- from 2^48". They are over the natural numbers, so a bound on a difference stands as a bound on sums. Assumes nothing.
-use mathlib.Core.Path.{◌≡◌, refl, ap, ◌∙◌}
-use mathlib.Core.Bool.{Bool, true, ◌&&◌}
-use mathlib.Core.List.{List, [], ◌∷◌, reverse, reverse-cons}
-use Prim.Native.Nat.{ℕ, zero, suc, ◌+◌, ◌-◌, ◌*◌, ◌^◌, ◌<◌, ◌≤◌}
-use native.Mathlib.Nat.{le_of_suc-le-suc, not-suc-le-zero, add_comm}
-use native.Mathlib.Omega.{arith}
-use lib.Dec.{T, leb, ltb, leb→le, ltb→lt}
+use Rattle.std.proofs.Common.{◌≡◌, ℕ, zero, suc, ◌+◌, ◌-◌, ◌*◌, ◌^◌, ◌<◌, ◌≤◌, Bool, true, ◌&&◌, T, ltb, leb, List, [], ◌∷◌, reverse, length, get_or, drop, refl, ap, ◌∙◌, le_of_suc-le-suc, not-suc-le-zero, add_comm, arith, ltb→lt, leb→le, get_or-drop}
+use mathlib.Core.List.{reverse-cons}
 use lib.Ieee.Fits.{and_l, and_r}
-use lib.ListN.{length, drop, get_or, length-reverse, get_or-append}
-use lib.Seq.{get_or-drop, get_or_at}
-use Rattle.circle.specs.Quarter.{quarter}
+use lib.ListN.{length-reverse, get_or-append}
+use lib.Seq.{get_or_at}
+use Rattle.sine.specs.Quarter.{quarter}
 
 -- T[i]
 abbrev pub entry : ℕ → ℕ

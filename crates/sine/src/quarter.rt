@@ -1,7 +1,10 @@
-// The quarter wave: document 01's table T, which an independent program recomputes.
+// The quarter wave: document 01's table T and its constant C, which an independent program recomputes.
 
 ghost use Rattle.std.specs.Prelude.{◌≡◌};
-ghost use Rattle.circle.specs.Quarter.{quarter};
+ghost use Rattle.sine.specs.Quarter.{quarter};
+
+// The whole number nearest 2^62 / (2 pi): how many positions, in units of 2^-30, one radian is.
+pub const C: u64 = 733972625820500307;
 
 // T[i] is the whole number nearest 2^24 sin(i pi / 2048).
 pub const T: [u32; 1025] = [

@@ -1,5 +1,0 @@
-// Document 01's table T of the quarter wave.
-
-#![tactic(auto)]
-
-pub mod quarter;
