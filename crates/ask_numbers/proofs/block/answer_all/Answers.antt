@@ -44,9 +44,9 @@ loop-i-preserved c =
       (
         omega arith,
         (
-          omega (arith, p.auto.0),
+          omega (arith, p.auto.out),
           (
-            omega (arith, p.auto.0),
+            omega (arith, p.auto.out),
             ap (λ (o : List ℕ). answered s o (i + 1) (n - (i + 1))) p.ensures
                 ∙ one_more s l.out t.result i (n - i) (n - (i + 1)) (omega arith) a
                 ∙ l.invariant.1.1.1.1,
