@@ -1,8 +1,8 @@
 -- Filling a slice from the front: with i values mixed in, the next one makes i + 1. Nothing here looks at what the values are.
 -- Assumes nothing.
-use Rattle.std.proofs.Common.{◌≡◌, ℕ, suc, ◌+◌, ◌-◌, ◌<◌, ◌≤◌, List, [], ◌∷◌, ◌++◌, length, get_or, take, drop, set, pos, sym, refl, ap, ◌∙◌, ap₂, add-zero, le_of_lt, add-suc, suc-add, zero-add, add-one, arith, length-append, length-drop, length-set, length-take-le, get_or-drop, drop-cons, get_or-take, take-suc, le-ltb, lt-ltb}
+use Rattle.std.proofs.Common.{◌≡◌, ℕ, suc, ◌+◌, ◌-◌, ◌<◌, ◌≤◌, List, [], ◌∷◌, ◌++◌, length, get_or, take, drop, set, pos, sym, refl, ap, ◌∙◌, ap₂, add-zero, le_of_lt, add-suc, suc-add, zero-add, add-one, arith, length-append, length-drop, length-set, length-take-le, drop-cons, take-suc}
 use lib.Seq.{set_at, get_or_at, append_snoc}
-use lib.Ieee.{Float, nan, binary32, add, mul, div, of_int}
+use lib.Ieee.{Float, nan, binary32, mul, div, of_int}
 use Rattle.ieee.specs.Constants.{one}
 use Rattle.instrument.specs.declared.machine.Instrument.{Instrument}
 use Rattle.instrument.specs.Fill.{mixed, mixed_from, time_at}
@@ -63,15 +63,6 @@ module _ (v : ℕ → Float) (added : ℕ) where
       ap (λ (o : List Float). set o i y) e
       ∙ front_more i xs y h (m ∙ ap₂ (mixed added i) (ap (λ (o : List Float). get_or o i nan) e ∙ front_at i xs h) n)
 
--- a value is added below the element, and stored from there on
-pub mixed_below : (added i : ℕ) (x v : Float) → i < added → add binary32 x v ≡ mixed added i x v
-unfolding mixed
-mixed_below added i x v h = rw (lt-ltb i added h, mixed)
-
-pub mixed_from_law : (added i : ℕ) (x v : Float) → added ≤ i → v ≡ mixed added i x v
-unfolding mixed
-mixed_from_law added i x v h = rw (le-ltb i added h, mixed)
-
 -- lanes, one after the other
 module _ (added : ℕ) (amplitude : Float) (i : ℕ) (values : List Float) (before : List Float) where
   pub mixes_none : MixesLanes added amplitude i 0 values before before
@@ -87,39 +78,6 @@ module _ (added : ℕ) (amplitude : Float) (i : ℕ) (values : List Float) (befo
             front_next v added (i + j) xs out y (mul binary32 amplitude (get_or values j nan)) (omega arith) (r.mixes v xs (omega arith) e (λ k p. h k (omega arith))) m (h j (omega arith))
             ∙ ap (λ (k : ℕ). Front v added k xs) w;
         size = length-set out (i + j) y ∙ r.size;
-      }
-
-module _ (added : ℕ) (amplitude : Float) (i : ℕ) (values : List Float) (before : List Float) where
-  -- lanes that are lent as the front of all
-  pub mixes_front : (n : ℕ) (after : List Float) → n ≤ length values → MixesLanes added amplitude i (length (take n values)) (take n values) before after
-      → MixesLanes added amplitude i n values before after
-  mixes_front n after l r =
-      let s : length (take n values) ≡ n = length-take-le n values l in
-      record {
-        mixes =
-            λ v xs p e h.
-            r.mixes v xs (omega arith) e
-            (λ j q. let w : j < n = omega arith in ap (mul binary32 amplitude) (get_or-take n values j nan w) ∙ h j w)
-            ∙ ap (λ (k : ℕ). Front v added (i + k) xs) s;
-        size = r.size;
-      }
-
-  -- some lanes, and then those behind them
-  pub mixes_then : (k n : ℕ) (mid after : List Float) → k ≤ n → n ≤ length values → MixesLanes added amplitude i k values before mid
-      → MixesLanes added amplitude (i + k) (length (take (n - k) (drop k values))) (take (n - k) (drop k values)) mid after → MixesLanes added amplitude i n values before after
-  mixes_then k n mid after l m r t =
-      let s : length (take (n - k) (drop k values)) ≡ n - k = length-take-le (n - k) (drop k values) (omega (arith, length-drop k values)) in
-      let z : i + k + length (take (n - k) (drop k values)) ≡ i + n = omega arith in
-      record {
-        mixes =
-            λ v xs p e h.
-            t.mixes v xs (omega arith) (r.mixes v xs (omega arith) e (λ j q. h j (omega arith)))
-            (λ j q.
-            let w : j < n - k = omega arith in
-            let o : i + (k + j) ≡ i + k + j = omega arith in
-            ap (mul binary32 amplitude) (get_or-take (n - k) (drop k values) j nan w ∙ get_or-drop k values j nan) ∙ h (k + j) (omega arith) ∙ ap v o)
-            ∙ ap (λ (m : ℕ). Front v added m xs) z;
-        size = t.size ∙ r.size;
       }
 
 -- what a loop works out at its time is the note's sample

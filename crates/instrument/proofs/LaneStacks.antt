@@ -8,8 +8,7 @@ use Rattle.instrument.specs.declared.machine.Command.{Command}
 use Rattle.instrument.specs.declared.machine.Command.TheVariants as Command
 use Rattle.instrument.specs.Machine.{Entry, topped, step}
 use Rattle.instrument.specs.Lanes.{Keeps, SettlesLanes, StepsLanes, settled_at, step_by, stack_by, lane_stack, lane_state, plus_kept}
-use Rattle.operator.specs.Lanes.{Lanes}
-use Rattle.operator.specs.Lanes.{always}
+use Rattle.operator.specs.Lanes.{Lanes, always}
 use Rattle.operator.specs.Lent.{worked_over}
 use Rattle.operator.proofs.Lent.{over_length, over_done}
 

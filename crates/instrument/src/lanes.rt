@@ -1,15 +1,13 @@
 // The stack machine on many samples side by side, a lane for each: a command is run on all lanes before the next one. What the lanes
 // set aside stands in one array, a row of lanes for each depth of the stack.
 
-ghost use Rattle.std.specs.Prelude.{◌≡◌, ℕ, ◌+◌, ◌*◌, ◌<◌, ◌≤◌, length};
-ghost use Rattle.std.specs.Float.{nan};
+ghost use Rattle.std.specs.Prelude.{◌≡◌, ◌+◌, ◌*◌, ◌<◌, ◌≤◌, length};
 ghost use Rattle.ieee.specs.Constants.{plus_zero};
-ghost use Rattle.operator.specs.Lanes.{Lanes};
-ghost use Rattle.operator.specs.Lanes.{always};
+ghost use Rattle.operator.specs.Lanes.{Lanes, always};
+ghost use Rattle.instrument.specs.Fill.{mixed};
 ghost use Rattle.instrument.specs.Lanes.{Keeps, SettlesLanes, StepsLanes, MixesLanes, timed, plus_kept};
 
 use crate::machine::Command;
-use lines::names::least;
 
 // The times of n samples from sample `first` on. Signed numbers of 32 bits are made floats four at once.
 pub(crate) fn times_from(times: &mut [f32], first: usize, n: usize, unit: f32)
@@ -49,8 +47,7 @@ fn keep(saved: &mut [f32], values: &[f32], from: usize)
 // Adds what was set aside from element `from` on to all lanes.
 fn add_kept(values: &mut [f32], saved: &[f32], from: usize)
     requires { from + length values.old ≤ length saved.now }
-    ensures { Lanes (plus_kept saved.now from) (length values.old)
-        values.old values.new }
+    ensures { Lanes (plus_kept saved.now from) (length values.old) values.old values.new }
 {
     let mut j: usize = 0;
     while j < values.len() {
@@ -110,39 +107,17 @@ pub(crate) fn step(
     }
 }
 
-// Adds lanes to a slice from place i on.
-fn add_lanes(out: &mut [f32], values: &[f32], i: usize, amplitude: f32)
-    requires { i + length values.now ≤ length out.old }
-    ensures { (added : ℕ) → ((j : ℕ) → j < length values.now → i + j < added)
-        → MixesLanes added amplitude i (length values.now) values.now
-        out.old out.new }
+// A value at place i, where `old` stands.
+fn mix(added: usize, i: usize, old: f32, v: f32) -> f32
+    ensures { result ≡ mixed added i old v }
 {
-    let mut j: usize = 0;
-    while j < values.len() {
-        let at = i + j;
-        let old = out[at];
-        let value = values[j];
-        out[at] = old + amplitude * value;
-        j += 1;
+    if added <= i {
+        return v;
     }
+    old + v
 }
 
-// Stores lanes in a slice from place i on.
-fn store_lanes(out: &mut [f32], values: &[f32], i: usize, amplitude: f32)
-    requires { i + length values.now ≤ length out.old }
-    ensures { (added : ℕ) → ((j : ℕ) → j < length values.now → added ≤ i + j)
-        → MixesLanes added amplitude i (length values.now) values.now
-        out.old out.new }
-{
-    let mut j: usize = 0;
-    while j < values.len() {
-        let value = values[j];
-        out[i + j] = amplitude * value;
-        j += 1;
-    }
-}
-
-// Mixes n lanes into a slice from place i on: those for places below `added` are added, the others stored.
+// Mixes n lanes into a slice from place i on.
 pub(crate) fn mix_lanes(
     out: &mut [f32],
     values: &[f32],
@@ -154,11 +129,12 @@ pub(crate) fn mix_lanes(
     requires { (n ≤ length values.now) × (i + n ≤ length out.old) }
     ensures { MixesLanes added amplitude i n values.now out.old out.new }
 {
-    if added <= i {
-        store_lanes(out, &values[..n], i, amplitude);
-        return;
+    let mut j: usize = 0;
+    while j < n {
+        let at = i + j;
+        let old = out[at];
+        let value = values[j];
+        out[at] = mix(added, at, old, amplitude * value);
+        j += 1;
     }
-    let below = least(n, added - i);
-    add_lanes(out, &values[..below], i, amplitude);
-    store_lanes(out, &values[below..n], i + below, amplitude);
 }

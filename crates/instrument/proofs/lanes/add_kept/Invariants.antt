@@ -1,7 +1,6 @@
 -- `add_kept` adds to one lane after the other what it set aside.
 -- Assumes nothing.
 use Rattle.std.proofs.Common.{◌≡◌, ℕ, ◌-◌, ◌≤◌, length, refl, subst, arith, rules}
-use lib.Ieee.{nan}
 use Rattle.operator.specs.Lanes.{Lanes}
 use Rattle.operator.proofs.LaneLaws.{lanes_none, lanes_more}
 use Rattle.instrument.specs.Lanes.{plus_kept}

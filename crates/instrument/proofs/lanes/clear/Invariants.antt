@@ -1,10 +1,9 @@
 -- `clear` sets one lane after the other to 0.0.
 -- Assumes nothing.
 use Rattle.std.proofs.Common.{◌≡◌, ℕ, ◌-◌, ◌≤◌, length, refl, subst, arith, rules}
-use lib.Ieee.{nan, of_bits}
+use lib.Ieee.{of_bits}
 use Rattle.ieee.specs.Constants.{plus_zero}
-use Rattle.operator.specs.Lanes.{Lanes}
-use Rattle.operator.specs.Lanes.{always}
+use Rattle.operator.specs.Lanes.{Lanes, always}
 use Rattle.operator.proofs.LaneLaws.{lanes_none, lanes_more}
 use Rattle.instrument.proofs.lanes.clear.Given as goal
 

@@ -3,7 +3,7 @@
 use Rattle.std.proofs.Common.{◌≡◌, ℕ, ◌+◌, ◌-◌, ◌≤◌, ℤ, pos, ap, subst, arith, le→leb, w32, to_z, rules}
 use borrow.Author.Rules.{sfits_of}
 use mir.ValLaws.{to_z_pos}
-use lib.Ieee.{nan, in_float, binary32, mul, of_int}
+use lib.Ieee.{in_float, binary32, mul, of_int}
 use Rattle.operator.specs.Lanes.{Lanes}
 use Rattle.operator.proofs.LaneLaws.{lanes_none, lanes_more}
 use Rattle.instrument.specs.Lanes.{timed}

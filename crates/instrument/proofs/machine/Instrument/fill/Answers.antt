@@ -8,6 +8,9 @@ use Rattle.instrument.proofs.machine.Instrument.fill.Goals as goal
 pub returns : goal.returns
 returns c =
     let a = c.args in
-    let e = c.fill_by.ensures in record {count = e.count; values = e.values
+    let e = c.fill_by.ensures in record {
+      count = e.count;
+      values = e.values
           ∙ ap (λ (table : List ℕ). filled_by table a.self a.amplitude a.f a.d a.rate a.first a.added a.out.now) c.table-table.ensures
-          ∙ filled_quarter a.self a.amplitude a.f a.d a.rate a.first a.added a.out.now;}
+          ∙ filled_quarter a.self a.amplitude a.f a.d a.rate a.first a.added a.out.now;
+    }

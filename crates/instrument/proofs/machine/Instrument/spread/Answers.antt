@@ -102,7 +102,7 @@ mix_lanes-requires c =
     let v = c.loop-i.invariant in
     let r = c.loop-k.invariant.1 in
     let z = c.clear.ensures.size in
-    (omega (arith, s.2, r.values_size, z), (let it : (n : ℕ) → n ≡ min (c.args.room - c.loop-i.i) (length c.loop-i.values) → c.loop-i.i + n ≤ length c.loop-i.out = λ n e. let a = c.args in let l = c.loop-i in let s = ((let it : (n : ℕ) → n ≡ min (c.args.room - c.loop-i.i) (length c.loop-i.values) → (c.args.first + c.loop-i.i + n ≤ 16777216) × (c.loop-i.i + n ≤ length c.args.out.now) × (n ≤ length c.loop-i.values) × (0 < n) × (c.loop-i.i + n ≤ c.args.room) = λ n e. samples c.args.first c.loop-i.i c.args.room (length c.args.out.now) (length c.loop-i.values) n c.requires.0 c.loop-i-test.true (omega (arith, c.loop-i.invariant.5, c.requires.1.0)) e in it) n e).1 in omega ( arith, s, ap length l.invariant.7, front_length (sound_by a.table.now a.self a.amplitude a.f a.d a.rate a.first) a.added l.i a.out.now (omega (arith, s)), ) in it) _ c.least-n.ensures)
+    (omega (arith, s.2, r.values_size, z), (let it : (n : ℕ) → n ≡ min (c.args.room - c.loop-i.i) (length c.loop-i.values) → c.loop-i.i + n ≤ length c.loop-i.out = λ n e. let a = c.args in let l = c.loop-i in let s = ((let it : (n : ℕ) → n ≡ min (c.args.room - c.loop-i.i) (length c.loop-i.values) → (c.args.first + c.loop-i.i + n ≤ 16777216) × (c.loop-i.i + n ≤ length c.args.out.now) × (n ≤ length c.loop-i.values) × (0 < n) × (c.loop-i.i + n ≤ c.args.room) = λ n e. samples c.args.first c.loop-i.i c.args.room (length c.args.out.now) (length c.loop-i.values) n c.requires.0 c.loop-i-test.true (omega (arith, c.loop-i.invariant.5, c.requires.1.0)) e in it) n e).1 in omega (arith, s, ap length l.invariant.7, front_length (sound_by a.table.now a.self a.amplitude a.f a.d a.rate a.first) a.added l.i a.out.now (omega (arith, s))) in it) _ c.least-n.ensures)
 
 pub overflow_add-i : goal.overflow_add-i
 overflow_add-i c = let s = (let it : (n : ℕ) → n ≡ min (c.args.room - c.loop-i.i) (length c.loop-i.values) → (c.args.first + c.loop-i.i + n ≤ 16777216) × (c.loop-i.i + n ≤ length c.args.out.now) × (n ≤ length c.loop-i.values) × (0 < n) × (c.loop-i.i + n ≤ c.args.room) = λ n e. samples c.args.first c.loop-i.i c.args.room (length c.args.out.now) (length c.loop-i.values) n c.requires.0 c.loop-i-test.true (omega (arith, c.loop-i.invariant.5, c.requires.1.0)) e in it) _ c.least-n.ensures in omega (arith, s.0)
