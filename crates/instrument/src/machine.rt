@@ -23,7 +23,7 @@ pub struct Slot {
 }
 
 // An instrument: its largest operator release, and its commands, `count` of them.
-#[derive(Drop)]
+#[derive(Clone, Copy)]
 pub struct Instrument {
     pub release: f32,
     pub commands: [Slot; 64],

@@ -2,7 +2,7 @@
 
 use sheet::sheet::Sheet;
 
-#[derive(Drop)]
+#[derive(Clone, Copy)]
 pub struct Reading {
     // A refusal's number, 0 for none, and its line.
     pub refusal: u32,

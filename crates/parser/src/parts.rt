@@ -46,7 +46,7 @@ fn is_part(l: &[u8]) -> bool
 }
 
 // Which part a line names.
-#[derive(Drop)]
+#[derive(Clone, Copy)]
 pub struct Parted {
     // Whether the line is a part's, with a name and a body.
     pub named: bool,

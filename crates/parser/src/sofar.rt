@@ -3,7 +3,7 @@
 
 use environment::environment::Environment;
 
-#[derive(Drop)]
+#[derive(Clone, Copy)]
 pub struct Sofar {
     // The starting environment.
     pub start: Environment,

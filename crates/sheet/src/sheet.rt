@@ -3,7 +3,7 @@
 use crate::note::Note;
 use instrument::machine::Instrument;
 
-#[derive(Drop)]
+#[derive(Clone, Copy)]
 pub struct Sheet {
     // How many parts there are, and how many notes each of them has, in order of first appearance.
     pub parts: usize,

@@ -14,7 +14,7 @@ use strict::mode::Mode;
 use windows::window::write_window;
 
 // What a caller is told: how many, a refusal's number, 0 for none, and its line.
-#[derive(Drop)]
+#[derive(Clone, Copy)]
 pub struct Told {
     pub count: usize,
     pub refusal: u32,

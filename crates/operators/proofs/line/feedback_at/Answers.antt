@@ -1,0 +1,58 @@
+-- `feedback_at` reads the token where it stands: a law of tokens says that the token alone gives the same. What lies between the number and the end of the
+-- ink is the token's tail. Assumes nothing.
+use mathlib.Core.Path.{◌≡◌, refl, sym, ap, ◌∙◌}
+use Prim.Native.Nat.{ℕ, ◌+◌}
+use lib.ListN.{length, drop}
+use Rattle.text.specs.Blanks.{is_ink}
+use Rattle.text.specs.Fronts.{front}
+use Rattle.text.proofs.Walks.{walk_inside}
+use Rattle.lines.proofs.Tokens.{Token, token_none, token_next}
+use Rattle.number.specs.declared.digits.Int.TheVariants.{Number}
+use Rattle.number.specs.Digits.{value_most, int_at}
+use Rattle.operators.specs.OperatorLines.{feedback_read}
+use Rattle.operators.specs.Steps.{feedback_outcome}
+use Rattle.operators.proofs.Steps.{feedback_inside, feedback_read_law, feedback_tailed, feedback_over, feedback_absent}
+use borrow.Author.Rules.{rules}
+use Rattle.operators.proofs.line.feedback_at.Goals as goal
+
+pub returns-then-from-text : goal.returns-then-from-text
+unfolding feedback_outcome feedback_read
+returns-then-from-text c = sym (ap (feedback_read c.args.mode line) (token_none _ _ _ c.blanks_end-from.ensures c.if-from-text.true))
+
+-- a digit run is there
+module _ (c : tie.After-known-told) where
+  abbrev start : tie.Else1
+  start = c.before.before.before.before
+
+  abbrev next : ℕ
+  next = c.before.d.given.0.1.0
+
+  read : int_at value_most start.before.before.before.args.text.now start.before.blanks-end.result ≡ Number c.before.d.given.0.0 next
+  read = sym c.before.before.before.eat-int.ensures ∙ c.before.d.given.1
+
+  -- behind it, the ink ends where the token does
+  here : (end : ℕ) → end ≡ next + length (front is_ink (drop next start.before.before.before.args.text.now))
+      → Token start.before.before.before.args.text.now start.before.before.before.args.at start.before.blanks-end.result end
+  here end e =
+      let h = feedback_inside _ _ _ _ (token start _ refl) _ _ read in
+      token start end (e ∙ (walk_inside is_ink start.before.before.before.args.text.now _ _ h.0 h.1).place)
+
+pub returns-then-v-gt255 : goal.returns-then-v-gt255
+unfolding feedback_outcome feedback_read
+returns-then-v-gt255 c =
+    sym (feedback_over _ _ _ _ (token (start c) _ refl) (start c).before.before.before.args.mode line _ _ (read c) c.if-v-gt255.true)
+
+pub returns-then-has_tail : goal.returns-then-has_tail
+unfolding feedback_outcome feedback_read
+returns-then-has_tail c =
+    sym (feedback_tailed _ _ _ _ (here c _ c.ink_end-end.ensures) (start c).before.before.before.args.mode line _ _ (read c) c.if-v-gt255.false (sym c.has_tail.ensures ∙ c.if-has_tail.true))
+
+pub returns-in-Number : goal.returns-in-Number
+unfolding feedback_outcome feedback_read
+returns-in-Number c =
+    sym (feedback_read_law _ _ _ _ (here c _ c.ink_end-end.ensures) (start c).before.before.before.args.mode line _ _ (read c) c.if-v-gt255.false (sym c.has_tail.ensures ∙ c.if-has_tail.false))
+
+pub returns-in-Absent : goal.returns-in-Absent
+unfolding feedback_outcome feedback_read
+returns-in-Absent c =
+    sym (feedback_absent _ _ _ _ ((let it : (end : ℕ) → end ≡ c.blanks_end-from.result + length (front is_ink (drop c.blanks_end-from.result c.args.text.now)) → Token c.args.text.now c.args.at c.blanks_end-from.result end = λ end e. token_next _ _ _ c.blanks_end-from.ensures c.if-from-text.false end e in it) _ refl) c.args.mode line (sym c.eat_int-d.ensures ∙ c.in-Absent.is))

@@ -1,0 +1,15 @@
+-- `value_command` is what `ranged_value` answers, put into the environment. Assumes nothing.
+use borrow.Author.Rules.{rules}
+use Rattle.environment.specs.Bounds.{values}
+use Rattle.settings.specs.Changes.{value_read}
+use Rattle.environment.specs.Environment.{with_value}
+use Rattle.settings.proofs.Changing.{number_to, number_refused}
+use Rattle.settings.proofs.command.value_command.Goals as goal
+
+pub returns-in-Value : goal.returns-in-Value
+unfolding value_read
+returns-in-Value c = number_to values with_value c.args.env _ _ _ c.in-Value.is c.ranged_value-found.ensures
+
+pub returns-in-Refused : goal.returns-in-Refused
+unfolding value_read
+returns-in-Refused c = number_refused values with_value c.args.env _ _ _ c.in-Refused.is c.ranged_value-found.ensures
