@@ -14,4 +14,4 @@ module _ (rate : ℕ) (s : Sheet) (r : Checked) (e : r ≡ checked_of rate s) wh
 
   pub checked_length : is_sheet rate s ≡ true → r.length ≡ length_of rate s
   unfolding checked_of
-  checked_length t = ap (λ (c : Checked). c.length) e ∙ rw t
+  checked_length t = ap (λ (c : Checked). c.length) e ∙ rw (checked_of, t)

@@ -9,106 +9,106 @@ use Rattle.items.proofs.item.found_at.Goals as goal
 
 pub returns-then-is_note_letter-clause-meant : goal.returns-then-is_note_letter-clause-meant
 returns-then-is_note_letter-clause-meant c =
-    (let e = c.note_at.ensures in
-    (e.0 ∙ at_letter _ _ (sym c.is_note_letter.ensures ∙ c.if-is_note_letter.true), e.1)).0
+    let e = c.note_at.ensures in
+    e.meant ∙ at_letter _ _ (sym c.is_note_letter.ensures ∙ c.if-is_note_letter.true)
 
 pub returns-then-is_note_letter-clause-onward : goal.returns-then-is_note_letter-clause-onward
 returns-then-is_note_letter-clause-onward c =
-    (let e = c.note_at.ensures in
-    (e.0 ∙ at_letter _ _ (sym c.is_note_letter.ensures ∙ c.if-is_note_letter.true), e.1)).1
+    let e = c.note_at.ensures in
+    e.onward
 
 pub returns-then-is_note_letter-clause-inside : goal.returns-then-is_note_letter-clause-inside
 returns-then-is_note_letter-clause-inside c =
-    (let e = c.note_at.ensures in
-    (e.0 ∙ at_letter _ _ (sym c.is_note_letter.ensures ∙ c.if-is_note_letter.true), e.1)).2
+    let e = c.note_at.ensures in
+    e.inside
 
 pub returns-then-b-eq62-clause-meant : goal.returns-then-b-eq62-clause-meant
 unfolding found_of item_at Inside
 returns-then-b-eq62-clause-meant c =
-    (let a = c.args in
-    (alone_found a.at up ∙ item_at_law _ 62 _ c.if-b-eq62.true, (alone_end a.text.now a.at c.requires, tt))).0
+    let a = c.args in
+    alone_found a.at up ∙ item_at_law _ 62 _ c.if-b-eq62.true
 
 pub returns-then-b-eq62-clause-onward : goal.returns-then-b-eq62-clause-onward
 unfolding found_of item_at Inside
 returns-then-b-eq62-clause-onward c =
-    (let a = c.args in
-    (alone_found a.at up ∙ item_at_law _ 62 _ c.if-b-eq62.true, (alone_end a.text.now a.at c.requires, tt))).1
+    let a = c.args in
+    alone_end a.text.now a.at c.requires
 
 pub returns-then-b-eq62-clause-inside : goal.returns-then-b-eq62-clause-inside
 unfolding found_of item_at Inside
 returns-then-b-eq62-clause-inside c =
-    (let a = c.args in
-    (alone_found a.at up ∙ item_at_law _ 62 _ c.if-b-eq62.true, (alone_end a.text.now a.at c.requires, tt))).2
+    let a = c.args in
+    tt
 
 pub returns-then-b-eq60-clause-meant : goal.returns-then-b-eq60-clause-meant
 unfolding found_of item_at Inside
 returns-then-b-eq60-clause-meant c =
-    (let a = c.args in
-    (alone_found a.at down ∙ item_at_law _ 60 _ c.if-b-eq60.true, (alone_end a.text.now a.at c.requires, tt))).0
+    let a = c.args in
+    alone_found a.at down ∙ item_at_law _ 60 _ c.if-b-eq60.true
 
 pub returns-then-b-eq60-clause-onward : goal.returns-then-b-eq60-clause-onward
 unfolding found_of item_at Inside
 returns-then-b-eq60-clause-onward c =
-    (let a = c.args in
-    (alone_found a.at down ∙ item_at_law _ 60 _ c.if-b-eq60.true, (alone_end a.text.now a.at c.requires, tt))).1
+    let a = c.args in
+    alone_end a.text.now a.at c.requires
 
 pub returns-then-b-eq60-clause-inside : goal.returns-then-b-eq60-clause-inside
 unfolding found_of item_at Inside
 returns-then-b-eq60-clause-inside c =
-    (let a = c.args in
-    (alone_found a.at down ∙ item_at_law _ 60 _ c.if-b-eq60.true, (alone_end a.text.now a.at c.requires, tt))).2
+    let a = c.args in
+    tt
 
 pub returns-then-b-eq91-clause-meant : goal.returns-then-b-eq91-clause-meant
 unfolding found_of item_at Inside
 returns-then-b-eq91-clause-meant c =
-    (let a = c.args in
-    (alone_found a.at opening ∙ item_at_law _ 91 _ c.if-b-eq91.true, (alone_end a.text.now a.at c.requires, tt))).0
+    let a = c.args in
+    alone_found a.at opening ∙ item_at_law _ 91 _ c.if-b-eq91.true
 
 pub returns-then-b-eq91-clause-onward : goal.returns-then-b-eq91-clause-onward
 unfolding found_of item_at Inside
 returns-then-b-eq91-clause-onward c =
-    (let a = c.args in
-    (alone_found a.at opening ∙ item_at_law _ 91 _ c.if-b-eq91.true, (alone_end a.text.now a.at c.requires, tt))).1
+    let a = c.args in
+    alone_end a.text.now a.at c.requires
 
 pub returns-then-b-eq91-clause-inside : goal.returns-then-b-eq91-clause-inside
 unfolding found_of item_at Inside
 returns-then-b-eq91-clause-inside c =
-    (let a = c.args in
-    (alone_found a.at opening ∙ item_at_law _ 91 _ c.if-b-eq91.true, (alone_end a.text.now a.at c.requires, tt))).2
+    let a = c.args in
+    tt
 
 pub returns-then-b-eq58-clause-meant : goal.returns-then-b-eq58-clause-meant
 unfolding found_of item_at Inside
 returns-then-b-eq58-clause-meant c =
-    (let a = c.args in
-    (alone_found a.at cut ∙ item_at_law _ 58 _ c.if-b-eq58.true, (alone_end a.text.now a.at c.requires, tt))).0
+    let a = c.args in
+    alone_found a.at cut ∙ item_at_law _ 58 _ c.if-b-eq58.true
 
 pub returns-then-b-eq58-clause-onward : goal.returns-then-b-eq58-clause-onward
 unfolding found_of item_at Inside
 returns-then-b-eq58-clause-onward c =
-    (let a = c.args in
-    (alone_found a.at cut ∙ item_at_law _ 58 _ c.if-b-eq58.true, (alone_end a.text.now a.at c.requires, tt))).1
+    let a = c.args in
+    alone_end a.text.now a.at c.requires
 
 pub returns-then-b-eq58-clause-inside : goal.returns-then-b-eq58-clause-inside
 unfolding found_of item_at Inside
 returns-then-b-eq58-clause-inside c =
-    (let a = c.args in
-    (alone_found a.at cut ∙ item_at_law _ 58 _ c.if-b-eq58.true, (alone_end a.text.now a.at c.requires, tt))).2
+    let a = c.args in
+    tt
 
 pub returns-clause-meant : goal.returns-clause-meant
 returns-clause-meant c =
-    (let e = c.command_at.ensures in
+    let e = c.command_at.ensures in
     let l = sym c.is_note_letter.ensures ∙ c.if-is_note_letter.false in
-    (e.0 ∙ past_marks _ _ l c.if-b-eq62.false c.if-b-eq60.false c.if-b-eq91.false c.if-b-eq58.false, e.1)).0
+    e.meant ∙ past_marks _ _ l c.if-b-eq62.false c.if-b-eq60.false c.if-b-eq91.false c.if-b-eq58.false
 
 pub returns-clause-onward : goal.returns-clause-onward
 returns-clause-onward c =
-    (let e = c.command_at.ensures in
+    let e = c.command_at.ensures in
     let l = sym c.is_note_letter.ensures ∙ c.if-is_note_letter.false in
-    (e.0 ∙ past_marks _ _ l c.if-b-eq62.false c.if-b-eq60.false c.if-b-eq91.false c.if-b-eq58.false, e.1)).1
+    e.onward
 
 pub returns-clause-inside : goal.returns-clause-inside
 returns-clause-inside c =
-    (let e = c.command_at.ensures in
+    let e = c.command_at.ensures in
     let l = sym c.is_note_letter.ensures ∙ c.if-is_note_letter.false in
-    (e.0 ∙ past_marks _ _ l c.if-b-eq62.false c.if-b-eq60.false c.if-b-eq91.false c.if-b-eq58.false, e.1)).2
+    e.inside
 

@@ -22,7 +22,7 @@ returns c =
     let t = c.if-at-text.false in
     record {
       meant = e.meant ∙ sym (item_there _ _ t);
-      onward = λ h. e.onward.0;
+      onward = λ h. e.onward;
       past = λ h. absurd (omega (arith, h, t));
-      inside = e.onward.1;
+      inside = e.inside;
     }

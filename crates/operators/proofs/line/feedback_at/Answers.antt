@@ -17,7 +17,7 @@ use Rattle.operators.proofs.line.feedback_at.Goals as goal
 
 pub returns-then-from-text : goal.returns-then-from-text
 unfolding feedback_outcome feedback_read
-returns-then-from-text c = sym (ap (feedback_read c.args.mode line) (token_none _ _ _ c.blanks_end-from.ensures c.if-from-text.true))
+returns-then-from-text c line = sym (ap (feedback_read c.args.mode line) (token_none _ _ _ c.blanks_end-from.ensures c.if-from-text.true))
 
 -- a digit run is there
 module _ (c : tie.After-known-told) where
@@ -39,20 +39,20 @@ module _ (c : tie.After-known-told) where
 
 pub returns-then-v-gt255 : goal.returns-then-v-gt255
 unfolding feedback_outcome feedback_read
-returns-then-v-gt255 c =
+returns-then-v-gt255 c line =
     sym (feedback_over _ _ _ _ (token (start c) _ refl) (start c).before.before.before.args.mode line _ _ (read c) c.if-v-gt255.true)
 
 pub returns-then-has_tail : goal.returns-then-has_tail
 unfolding feedback_outcome feedback_read
-returns-then-has_tail c =
+returns-then-has_tail c line =
     sym (feedback_tailed _ _ _ _ (here c _ c.ink_end-end.ensures) (start c).before.before.before.args.mode line _ _ (read c) c.if-v-gt255.false (sym c.has_tail.ensures ∙ c.if-has_tail.true))
 
 pub returns-in-Number : goal.returns-in-Number
 unfolding feedback_outcome feedback_read
-returns-in-Number c =
+returns-in-Number c line =
     sym (feedback_read_law _ _ _ _ (here c _ c.ink_end-end.ensures) (start c).before.before.before.args.mode line _ _ (read c) c.if-v-gt255.false (sym c.has_tail.ensures ∙ c.if-has_tail.false))
 
 pub returns-in-Absent : goal.returns-in-Absent
 unfolding feedback_outcome feedback_read
-returns-in-Absent c =
+returns-in-Absent c line =
     sym (feedback_absent _ _ _ _ ((let it : (end : ℕ) → end ≡ c.blanks_end-from.result + length (front is_ink (drop c.blanks_end-from.result c.args.text.now)) → Token c.args.text.now c.args.at c.blanks_end-from.result end = λ end e. token_next _ _ _ c.blanks_end-from.ensures c.if-from-text.false end e in it) _ refl) c.args.mode line (sym c.eat_int-d.ensures ∙ c.in-Absent.is))

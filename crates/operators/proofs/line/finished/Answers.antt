@@ -9,15 +9,15 @@ use Rattle.operators.proofs.line.finished.Goals as goal
 
 pub returns-in-Refused : goal.returns-in-Refused
 unfolding outcome_of feedback_outcome operator_of
-returns-in-Refused c =
+returns-in-Refused c line =
     finished_refused _ _ _ _ _ _ _ (sym (c.feedback_at-f.ensures line) ∙ ap (feedback_outcome line) c.in-Refused.is)
 
 pub returns-then-above-ge32 : goal.returns-then-above-ge32
 unfolding outcome_of feedback_outcome operator_of
-returns-then-above-ge32 c =
+returns-then-above-ge32 c line =
     finished_full _ _ _ _ _ _ _ (sym (c.feedback_at-f.ensures line) ∙ ap (feedback_outcome line) c.in-Is.is) c.if-above-ge32.true
 
 pub returns-in-Is : goal.returns-in-Is
 unfolding outcome_of feedback_outcome operator_of
-returns-in-Is c =
+returns-in-Is c line =
     finished_read_law _ _ _ _ _ _ _ (sym (c.feedback_at-f.ensures line) ∙ ap (feedback_outcome line) c.in-Is.is) c.if-above-ge32.false
