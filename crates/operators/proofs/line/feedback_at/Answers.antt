@@ -2,6 +2,7 @@
 -- ink is the token's tail. Assumes nothing.
 use mathlib.Core.Path.{◌≡◌, refl, sym, ap, ◌∙◌}
 use Prim.Native.Nat.{ℕ, ◌+◌}
+use mathlib.Core.List.{List}
 use lib.ListN.{length, drop}
 use Rattle.text.specs.Blanks.{is_ink}
 use Rattle.text.specs.Fronts.{front}
@@ -19,38 +20,27 @@ pub returns-then-from-text : goal.returns-then-from-text
 unfolding feedback_outcome feedback_read
 returns-then-from-text c line = sym (ap (feedback_read c.args.mode line) (token_none _ _ _ c.blanks_end-from.ensures c.if-from-text.true))
 
--- a digit run is there
-module _ (c : tie.After-known-told) where
-  abbrev start : tie.Else1
-  start = c.before.before.before.before
-
-  abbrev next : ℕ
-  next = c.before.d.given.0.1.0
-
-  read : int_at value_most start.before.before.before.args.text.now start.before.blanks-end.result ≡ Number c.before.d.given.0.0 next
-  read = sym c.before.before.before.eat-int.ensures ∙ c.before.d.given.1
-
-  -- behind it, the ink ends where the token does
-  here : (end : ℕ) → end ≡ next + length (front is_ink (drop next start.before.before.before.args.text.now))
-      → Token start.before.before.before.args.text.now start.before.before.before.args.at start.before.blanks-end.result end
-  here end e =
-      let h = feedback_inside _ _ _ _ (token start _ refl) _ _ read in
-      token start end (e ∙ (walk_inside is_ink start.before.before.before.args.text.now _ _ h.0 h.1).place)
+-- behind the digit run of a token, the ink ends where the token does
+here : (text : List ℕ) (at from value next : ℕ) → ((end : ℕ) → end ≡ from + length (front is_ink (drop from text)) → Token text at from end)
+    → int_at value_most text from ≡ Number value next → (end : ℕ) → end ≡ next + length (front is_ink (drop next text)) → Token text at from end
+here text at from value next token read end e =
+    let h = feedback_inside _ _ _ _ (token _ refl) _ _ read in
+    token end (e ∙ (walk_inside is_ink text _ _ h.0 h.1).place)
 
 pub returns-then-v-gt255 : goal.returns-then-v-gt255
 unfolding feedback_outcome feedback_read
 returns-then-v-gt255 c line =
-    sym (feedback_over _ _ _ _ (token (start c) _ refl) (start c).before.before.before.args.mode line _ _ (read c) c.if-v-gt255.true)
+    sym (feedback_over _ _ _ _ (token_next _ _ _ c.blanks_end-from.ensures c.if-from-text.false _ refl) c.args.mode line _ _ (sym c.eat_int-d.ensures ∙ c.in-Number.is) c.if-v-gt255.true)
 
 pub returns-then-has_tail : goal.returns-then-has_tail
 unfolding feedback_outcome feedback_read
 returns-then-has_tail c line =
-    sym (feedback_tailed _ _ _ _ (here c _ c.ink_end-end.ensures) (start c).before.before.before.args.mode line _ _ (read c) c.if-v-gt255.false (sym c.has_tail.ensures ∙ c.if-has_tail.true))
+    sym (feedback_tailed _ _ _ _ (here _ _ _ _ _ (λ end e. token_next _ _ _ c.blanks_end-from.ensures c.if-from-text.false end e) (sym c.eat_int-d.ensures ∙ c.in-Number.is) _ c.ink_end-end.ensures) c.args.mode line _ _ (sym c.eat_int-d.ensures ∙ c.in-Number.is) c.if-v-gt255.false (sym c.has_tail.ensures ∙ c.if-has_tail.true))
 
 pub returns-in-Number : goal.returns-in-Number
 unfolding feedback_outcome feedback_read
 returns-in-Number c line =
-    sym (feedback_read_law _ _ _ _ (here c _ c.ink_end-end.ensures) (start c).before.before.before.args.mode line _ _ (read c) c.if-v-gt255.false (sym c.has_tail.ensures ∙ c.if-has_tail.false))
+    sym (feedback_read_law _ _ _ _ (here _ _ _ _ _ (λ end e. token_next _ _ _ c.blanks_end-from.ensures c.if-from-text.false end e) (sym c.eat_int-d.ensures ∙ c.in-Number.is) _ c.ink_end-end.ensures) c.args.mode line _ _ (sym c.eat_int-d.ensures ∙ c.in-Number.is) c.if-v-gt255.false (sym c.has_tail.ensures ∙ c.if-has_tail.false))
 
 pub returns-in-Absent : goal.returns-in-Absent
 unfolding feedback_outcome feedback_read

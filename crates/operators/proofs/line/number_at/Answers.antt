@@ -2,6 +2,7 @@
 -- inside its token, so the ink behind the number ends where the token does, and what lies between is its tail. Assumes nothing.
 use mathlib.Core.Path.{◌≡◌, refl, sym, ◌∙◌}
 use Prim.Native.Nat.{ℕ, ◌+◌}
+use mathlib.Core.List.{List}
 use lib.ListN.{length, drop}
 use lib.Ieee.{Float}
 use Rattle.text.specs.Blanks.{is_ink}
@@ -15,32 +16,20 @@ use Rattle.operators.proofs.Steps.{number_inside, number_passed, number_tailed, 
 use borrow.Author.Rules.{rules}
 use Rattle.operators.proofs.line.number_at.Goals as goal
 
--- behind the number, the ink ends where the token does
-module _ (c : tie.After-ink-end) where
-  abbrev start : tie.After-blanks-end
-  start = c.before.before.before.before.before
-
-  abbrev value : Float
-  value = c.before.before.d.given.0.0
-
-  abbrev next : ℕ
-  next = c.before.before.d.given.0.1.0
-
-  read : decimal_at start.before.before.args.text.now start.blanks-end.result ≡ Value value next
-  read = sym c.before.before.before.before.eat-float.ensures ∙ c.before.before.d.given.1
-
-  here : Token start.before.before.args.text.now start.before.before.args.at start.blanks-end.result c.ink-end.result
-  here =
-      let h = number_inside _ _ _ _ (token start _ refl) _ _ read in
-      token start _ (c.ink-end.ensures ∙ (walk_inside is_ink start.before.before.args.text.now _ _ h.0 h.1).place)
+-- behind the number of a token, the ink ends where the token does
+here : (text : List ℕ) (at from next : ℕ) (value : Float) → ((end : ℕ) → end ≡ from + length (front is_ink (drop from text)) → Token text at from end)
+    → decimal_at text from ≡ Value value next → (end : ℕ) → end ≡ next + length (front is_ink (drop next text)) → Token text at from end
+here text at from next value token read end e =
+    let h = number_inside _ _ _ _ (token _ refl) _ _ read in
+    token end (e ∙ (walk_inside is_ink text _ _ h.0 h.1).place)
 
 pub returns-then-has_tail : goal.returns-then-has_tail
 returns-then-has_tail c =
-    number_tailed _ _ _ _ (here c) _ _ _ (read c) (sym c.has_tail.ensures ∙ c.if-has_tail.true)
+    number_tailed _ _ _ _ (here _ _ _ _ _ (λ end e. token_next _ _ _ c.blanks_end-from.ensures (token_there _ _ _ c.blanks_end-from.ensures c.requires) end e) (sym c.eat_float-d.ensures ∙ c.in-Value.is) _ c.ink_end-end.ensures) _ _ _ (sym c.eat_float-d.ensures ∙ c.in-Value.is) (sym c.has_tail.ensures ∙ c.if-has_tail.true)
 
 pub returns-in-Value : goal.returns-in-Value
 returns-in-Value c =
-    number_passed _ _ _ _ (here c) _ _ _ (read c) (sym c.has_tail.ensures ∙ c.if-has_tail.false)
+    number_passed _ _ _ _ (here _ _ _ _ _ (λ end e. token_next _ _ _ c.blanks_end-from.ensures (token_there _ _ _ c.blanks_end-from.ensures c.requires) end e) (sym c.eat_float-d.ensures ∙ c.in-Value.is) _ c.ink_end-end.ensures) _ _ _ (sym c.eat_float-d.ensures ∙ c.in-Value.is) (sym c.has_tail.ensures ∙ c.if-has_tail.false)
 
 pub returns-in-Unreadable : goal.returns-in-Unreadable
 unfolding readable

@@ -12,8 +12,7 @@ use Rattle.text.specs.Blanks.{is_blank}
 use Rattle.text.specs.Fronts.{front, after}
 use Rattle.text.proofs.Fronts.{after_is}
 use Rattle.operators.specs.OperatorLines.{ends, ends_at}
-use Rattle.blocks.proofs.block.is_end.Statement.{statement}
-use Rattle.blocks.proofs.block.is_end.Tie as tie
+use Rattle.blocks.proofs.block.is_end.Goals as goal
 
 module _ (l : List ℕ) (at : ℕ) (e : at ≡ 0 + length (front is_blank (drop 0 l))) where
   rest : after is_blank l ≡ drop at l
@@ -29,31 +28,17 @@ module _ (l : List ℕ) (at : ℕ) (e : at ≡ 0 + length (front is_blank (drop 
   unfolding ends ends_at
   inked h = rw (rest, drop-cons l at 0 h)
 
-blanks-end-requires : tie.Need-blanks-end-requires
-blanks-end-requires c κs = search rules
+pub returns-then-at-l : goal.returns-then-at-l
+returns-then-at-l c = blank _ _ c.blanks_end-at.ensures c.if-at-l.true
 
-returns : tie.Need-returns
-returns c = blank _ _ c.before.blanks-end.ensures c.if1.true
+pub returns-then-b-eq35 : goal.returns-then-b-eq35
+returns-then-b-eq35 c =
+    sym (inked _ _ c.blanks_end-at.ensures c.if-at-l.false ∙ rw (eq-eqb _ _ c.if-b-eq35.true))
 
-shared-slice-read-b : tie.Need-shared-slice-read-b
-shared-slice-read-b c = search rules
+pub returns-then-b-eq64 : goal.returns-then-b-eq64
+returns-then-b-eq64 c =
+    sym (inked _ _ c.blanks_end-at.ensures c.if-at-l.false ∙ rw (ne_eqb _ _ c.if-b-eq35.false, eq-eqb _ _ c.if-b-eq64.true))
 
-returns-2 : tie.Need-returns-2
-returns-2 c =
-    let b = c.before.before in
-    sym (inked _ _ b.before.blanks-end.ensures b.if1.false ∙ rw (eq-eqb _ _ c.if2.true))
-
-returns-3 : tie.Need-returns-3
-returns-3 c =
-    let b = c.before.before.before in
-    sym (inked _ _ b.before.blanks-end.ensures b.if1.false ∙ rw (ne_eqb _ _ c.before.if2.false, eq-eqb _ _ c.if3.true))
-
-returns-4 : tie.Need-returns-4
-returns-4 c =
-    let b = c.before.before.before in
-    sym (inked _ _ b.before.blanks-end.ensures b.if1.false ∙ rw (ne_eqb _ _ c.before.if2.false, ne_eqb _ _ c.if3.false))
-
-pub is-end-spec : {M : Type 1} → statement M
-is-end-spec =
-    tie.close
-    (tie.spec blanks-end-requires returns shared-slice-read-b returns-2 returns-3 returns-4)
+pub returns : goal.returns
+returns c =
+    sym (inked _ _ c.blanks_end-at.ensures c.if-at-l.false ∙ rw (ne_eqb _ _ c.if-b-eq35.false, ne_eqb _ _ c.if-b-eq64.false))
