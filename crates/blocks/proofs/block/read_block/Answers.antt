@@ -13,67 +13,67 @@ use Rattle.blocks.proofs.block.read_block.Goals as goal
 
 pub returns-then-numbers-lt192-clause-read : goal.returns-then-numbers-lt192-clause-read
 returns-then-numbers-lt192-clause-read c =
-    (narrow_numbers _ _ _ _ _ c.if-numbers-lt192.true).0
+    (narrow_numbers c.args.mode c.args.source.now c.args.at c.args.numbers.now c.args.shape.now c.if-numbers-lt192.true).0
 
 pub returns-then-numbers-lt192-clause-place : goal.returns-then-numbers-lt192-clause-place
 returns-then-numbers-lt192-clause-place c =
-    (narrow_numbers _ _ _ _ _ c.if-numbers-lt192.true).1.0
+    (narrow_numbers c.args.mode c.args.source.now c.args.at c.args.numbers.now c.args.shape.now c.if-numbers-lt192.true).1.0
 
 pub returns-then-numbers-lt192-clause-onward : goal.returns-then-numbers-lt192-clause-onward
 returns-then-numbers-lt192-clause-onward c =
-    (narrow_numbers _ _ _ _ _ c.if-numbers-lt192.true).1.1.0
+    (narrow_numbers c.args.mode c.args.source.now c.args.at c.args.numbers.now c.args.shape.now c.if-numbers-lt192.true).1.1.0
 
 pub returns-then-numbers-lt192-clause-within : goal.returns-then-numbers-lt192-clause-within
 returns-then-numbers-lt192-clause-within c =
-    (narrow_numbers _ _ _ _ _ c.if-numbers-lt192.true).1.1.1.0
+    (narrow_numbers c.args.mode c.args.source.now c.args.at c.args.numbers.now c.args.shape.now c.if-numbers-lt192.true).1.1.1.0
 
 pub returns-then-numbers-lt192-clause-few : goal.returns-then-numbers-lt192-clause-few
 returns-then-numbers-lt192-clause-few c =
-    (narrow_numbers _ _ _ _ _ c.if-numbers-lt192.true).1.1.1.1.0
+    (narrow_numbers c.args.mode c.args.source.now c.args.at c.args.numbers.now c.args.shape.now c.if-numbers-lt192.true).1.1.1.1.0
 
 pub returns-then-numbers-lt192-clause-kept : goal.returns-then-numbers-lt192-clause-kept
 returns-then-numbers-lt192-clause-kept c =
-    (narrow_numbers _ _ _ _ _ c.if-numbers-lt192.true).1.1.1.1.1.0
+    (narrow_numbers c.args.mode c.args.source.now c.args.at c.args.numbers.now c.args.shape.now c.if-numbers-lt192.true).1.1.1.1.1.0
 
 pub returns-then-numbers-lt192-clause-front : goal.returns-then-numbers-lt192-clause-front
 returns-then-numbers-lt192-clause-front c =
-    (narrow_numbers _ _ _ _ _ c.if-numbers-lt192.true).1.1.1.1.1.1.0
+    (narrow_numbers c.args.mode c.args.source.now c.args.at c.args.numbers.now c.args.shape.now c.if-numbers-lt192.true).1.1.1.1.1.1.0
 
 pub returns-then-numbers-lt192-clause-rest : goal.returns-then-numbers-lt192-clause-rest
 returns-then-numbers-lt192-clause-rest c =
-    (narrow_numbers _ _ _ _ _ c.if-numbers-lt192.true).1.1.1.1.1.1.1
+    (narrow_numbers c.args.mode c.args.source.now c.args.at c.args.numbers.now c.args.shape.now c.if-numbers-lt192.true).1.1.1.1.1.1.1
 
 pub returns-then-shape-lt64-clause-read : goal.returns-then-shape-lt64-clause-read
 returns-then-shape-lt64-clause-read c =
-    (narrow_shape _ _ _ _ _ c.if-numbers-lt192.false c.if-shape-lt64.true).0
+    (narrow_shape c.args.mode c.args.source.now c.args.at c.args.numbers.now c.args.shape.now c.if-numbers-lt192.false c.if-shape-lt64.true).0
 
 pub returns-then-shape-lt64-clause-place : goal.returns-then-shape-lt64-clause-place
 returns-then-shape-lt64-clause-place c =
-    (narrow_shape _ _ _ _ _ c.if-numbers-lt192.false c.if-shape-lt64.true).1.0
+    (narrow_shape c.args.mode c.args.source.now c.args.at c.args.numbers.now c.args.shape.now c.if-numbers-lt192.false c.if-shape-lt64.true).1.0
 
 pub returns-then-shape-lt64-clause-onward : goal.returns-then-shape-lt64-clause-onward
 returns-then-shape-lt64-clause-onward c =
-    (narrow_shape _ _ _ _ _ c.if-numbers-lt192.false c.if-shape-lt64.true).1.1.0
+    (narrow_shape c.args.mode c.args.source.now c.args.at c.args.numbers.now c.args.shape.now c.if-numbers-lt192.false c.if-shape-lt64.true).1.1.0
 
 pub returns-then-shape-lt64-clause-within : goal.returns-then-shape-lt64-clause-within
 returns-then-shape-lt64-clause-within c =
-    (narrow_shape _ _ _ _ _ c.if-numbers-lt192.false c.if-shape-lt64.true).1.1.1.0
+    (narrow_shape c.args.mode c.args.source.now c.args.at c.args.numbers.now c.args.shape.now c.if-numbers-lt192.false c.if-shape-lt64.true).1.1.1.0
 
 pub returns-then-shape-lt64-clause-few : goal.returns-then-shape-lt64-clause-few
 returns-then-shape-lt64-clause-few c =
-    (narrow_shape _ _ _ _ _ c.if-numbers-lt192.false c.if-shape-lt64.true).1.1.1.1.0
+    (narrow_shape c.args.mode c.args.source.now c.args.at c.args.numbers.now c.args.shape.now c.if-numbers-lt192.false c.if-shape-lt64.true).1.1.1.1.0
 
 pub returns-then-shape-lt64-clause-kept : goal.returns-then-shape-lt64-clause-kept
 returns-then-shape-lt64-clause-kept c =
-    (narrow_shape _ _ _ _ _ c.if-numbers-lt192.false c.if-shape-lt64.true).1.1.1.1.1.0
+    (narrow_shape c.args.mode c.args.source.now c.args.at c.args.numbers.now c.args.shape.now c.if-numbers-lt192.false c.if-shape-lt64.true).1.1.1.1.1.0
 
 pub returns-then-shape-lt64-clause-front : goal.returns-then-shape-lt64-clause-front
 returns-then-shape-lt64-clause-front c =
-    (narrow_shape _ _ _ _ _ c.if-numbers-lt192.false c.if-shape-lt64.true).1.1.1.1.1.1.0
+    (narrow_shape c.args.mode c.args.source.now c.args.at c.args.numbers.now c.args.shape.now c.if-numbers-lt192.false c.if-shape-lt64.true).1.1.1.1.1.1.0
 
 pub returns-then-shape-lt64-clause-rest : goal.returns-then-shape-lt64-clause-rest
 returns-then-shape-lt64-clause-rest c =
-    (narrow_shape _ _ _ _ _ c.if-numbers-lt192.false c.if-shape-lt64.true).1.1.1.1.1.1.1
+    (narrow_shape c.args.mode c.args.source.now c.args.at c.args.numbers.now c.args.shape.now c.if-numbers-lt192.false c.if-shape-lt64.true).1.1.1.1.1.1.1
 
 pub loop-place-init : goal.loop-place-init
 loop-place-init c = reading_start _ _ _ _ _ c.if-numbers-lt192.false c.if-shape-lt64.false
@@ -238,4 +238,4 @@ loop-place-preserved c =
     let p = c.put in
     reading_more _ _ _ _ _ _ _ _ _ _ c.loop-place.invariant _ _ ((let it : Lined c.args.source.now c.loop-place.place c.line_at-line.result.end c.line_at-line.result.next = line_placed _ _ _ c.line_at-line.ensures c.if-place-source.false in it)) ((let it : ends (take (c.line_at-line.result.end - c.loop-place.place) (drop c.loop-place.place c.args.source.now)) ≡ false = sym c.is_end.ensures ∙ c.if-is_end.false in it)) _ _
     (λ line. sym (ap (outcome_of line) c.in-Read.is) ∙ c.operator-read.ensures line) _ _ p.auto.numbers p.auto.shape
-    p.ensures.lines p.ensures.1
+    p.ensures.lines p.ensures.rest

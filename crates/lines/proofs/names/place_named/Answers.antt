@@ -41,12 +41,6 @@ bounds-places-at-in-loop-at c = (let it : c.loop-at.at + 1 < length c.args.place
 pub slice_bounds-known-count : goal.slice_bounds-known-count
 slice_bounds-known-count c = cut c.least-from.result _ c.least-to.result c.least-from.ensures
 
--- GONE part-known-start : tie.Need-slice-bounds-known-start invariant-loop decreases-loop
--- GONE part-known-start c = cut c.least2.result _ c.before.least.result c.least2.ensures
-
--- GONE part-known-end : tie.Need-slice-bounds-known-end invariant-loop decreases-loop
--- GONE part-known-end c = cut c.before.least.result _ _ c.before.least.ensures
-
 pub returns-then-same_text-clause-meant : goal.returns-then-same_text-clause-meant
 returns-then-same_text-clause-meant c =
     (looked_found _ _ _ _ _ c.loop-at.invariant ((let it : c.loop-at.at + 1 < length c.args.places.now = two_left _ c.loop-at.at c.loop-at-test.true in it)) (ap (same _) (sym (between_cut _ _ _ _ _ c.least-to.ensures c.least-from.ensures)) ∙ sym c.same_text.ensures ∙ c.if-same_text.true)).0

@@ -35,12 +35,6 @@ returns-then-names-ne64-clause-names c =
 pub slice_bounds-name-count : goal.slice_bounds-name-count
 slice_bounds-name-count c = cut_order c.least-begin.result _ c.least-to.result c.least-begin.ensures
 
--- GONE part-name-start : tie.Need-slice-bounds-name-start
--- GONE part-name-start c = cut_order c.least2.result _ c.before.least.result c.least2.ensures
-
--- GONE part-name-end : tie.Need-slice-bounds-name-end
--- GONE part-name-end c = cut_order c.before.least.result _ _ c.before.least.ensures
-
 pub is_taken-requires : goal.is_taken-requires
 is_taken-requires c =
     known _ _ c.if-count-gt32.false c.if-names-ne64.false
