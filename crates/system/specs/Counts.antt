@@ -1,7 +1,6 @@
 -- How many bytes at the start of a buffer mean something. Assumes nothing.
 use Rattle.std.specs.Prelude.{◌≡◌, List, ℕ, ◌≤◌, length, take}
 use Rattle.system.specs.declared.input.Input.{Input}
-use Rattle.system.specs.declared.input.Input.TheVariants as Input
 
 -- n counts bytes at the start of xs; the second part follows from the first, and both are what `&buf[..n]` asks
 abbrev pub Counts : ℕ → List ℕ → Type 0

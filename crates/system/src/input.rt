@@ -1,9 +1,12 @@
 // Standard input: its first bytes. A read that fails is not the end of the text, and half a text is never taken for a
 // whole one.
 
-ghost use Rattle.system.specs.Counts.{Within};
+ghost use Rattle.std.specs.Prelude.{IfOk};
+ghost use Rattle.system.specs.Counts.{Counts, Within};
 
-use libc::{EINTR, STDIN_FILENO};
+use crate::output::fail;
+use std::io;
+use std::io::{Error, ErrorKind, Read, Write};
 
 // What stands at a buffer's start: so many bytes that were read, or nothing that means anything, as reading failed.
 #[derive(Clone, Copy)]
@@ -15,41 +18,43 @@ pub enum Input {
 // How often an interrupted call is tried again: every function has to end, and nobody interrupts so often.
 pub(crate) const TRIES: u32 = 4294967295;
 
-// One read to the start of a buffer, of no byte at the end of the input, tried again where a signal interrupts it.
-fn read_some(bytes: &mut [u8]) -> Input
-    ensures { Within result bytes.new }
-{
-    let mut tries = TRIES;
-    while tries > 0 {
-        let got = libc::read(STDIN_FILENO, bytes);
-        if got >= 0 {
-            return Input::Read(io::count(got, bytes));
-        }
-        if os::errno() != EINTR {
-            return Input::Failed;
-        }
-        tries -= 1;
-    }
-    Input::Failed
+// Whether a signal interrupted the call that failed so.
+pub(crate) fn is_interrupted(why: Error) -> bool {
+    why.kind() == ErrorKind::Interrupted
 }
 
-// Reads standard input until the buffer is full or the input ends. Where reading fails, one line to standard error says
-// why.
-pub fn read_first(bytes: &mut [u8]) -> Input
+// One read to the start of a buffer, of no byte at the end of the input, tried again where a signal interrupts it.
+fn read_some<R: Read>(input: &mut R, bytes: &mut [u8]) -> io::Result<usize>
+    ensures { IfOk result (λ n. Counts n bytes.new) }
+{
+    let mut why = Error::from(ErrorKind::Interrupted);
+    for _ in 0..TRIES {
+        match input.read(bytes) {
+            Ok(n) => return Ok(n),
+            Err(error) => why = error,
+        }
+        if !is_interrupted(why) {
+            return Err(why);
+        }
+    }
+    Err(why)
+}
+
+// Reads an input until the buffer is full or the input ends. Where reading fails, one line to standard error says why.
+pub fn read_first<R: Read, E: Write>(input: &mut R, errors: &mut E, bytes: &mut [u8]) -> Input
     ensures { Within result bytes.new }
 {
     let mut done = 0;
     while done < bytes.len() {
-        let got = read_some(&mut bytes[done..]);
-        match got {
-            Input::Read(n) => {
+        match read_some(input, &mut bytes[done..]) {
+            Ok(n) => {
                 if n == 0 {
                     return Input::Read(done);
                 }
                 done += n;
             }
-            Input::Failed => {
-                os::fail(b"standard input");
+            Err(why) => {
+                fail(errors, b"standard input", why);
                 return Input::Failed;
             }
         }

@@ -1,7 +1,7 @@
-// What a program reads and writes. This crate alone stands on `io`, `libc` and `os`, but for the programs that the
-// comparisons ask, so that nothing else in the house can read, write or look at the words that a program is started
-// with. No contract can say which bytes the system hands over or takes: of a program that is what is not proved, and
-// its code is looked at.
+// What a program reads and writes, and the words that it is started with. They are had of the system, which `main` alone
+// is given and lends to this crate; nothing is lent to a crate below, so that nothing else in the house can read, write
+// or look at the words, but for the programs that the comparisons ask, which stand on `io`. No contract can say which
+// bytes the system hands over or takes: of a program that is what is not proved, and its code is looked at.
 
 #![tactic(auto)]
 

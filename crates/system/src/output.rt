@@ -1,17 +1,19 @@
 // Standard output, which takes an answer in order, and standard error, which takes a line. Elsewhere an `Output` can be
 // made at its start alone and not be changed, so that one at a later place is had only by handing on all before it.
 
-ghost use Rattle.std.specs.Prelude.{◌≡◌, true, length};
+ghost use Rattle.std.specs.Prelude.{◌≡◌, true, length, IfOk};
 ghost use Rattle.system.specs.Counts.{Counts};
 ghost use Rattle.system.specs.Moving.{Advanced};
 
-use crate::input::TRIES;
-use libc::{EINTR, STDERR_FILENO, STDOUT_FILENO};
+use crate::input::{TRIES, is_interrupted};
+use std::fmt::InlineText;
+use std::io;
+use std::io::{Error, ErrorKind, Write};
 
 // The largest place.
 const LARGEST: usize = 18446744073709551615;
 
-#[derive(Drop)]
+#[derive(Clone, Copy)]
 pub struct Output {
     // How many bytes of the answer have been handed on.
     at: usize,
@@ -19,35 +21,41 @@ pub struct Output {
     taking: bool,
 }
 
-// One write of a part's first bytes, tried again where a signal interrupts it; how many it took, 0 where it failed.
-fn write_some(fd: i32, part: &[u8]) -> usize
-    ensures { Counts result part.now }
-{
-    let mut tries = TRIES;
-    while tries > 0 {
-        let put = libc::write(fd, part);
-        if put >= 0 {
-            return io::count(put, part);
-        }
-        if os::errno() != EINTR {
-            return 0;
-        }
-        tries -= 1;
-    }
-    0
+// What a program writes to: standard output and standard error.
+#[derive(Drop)]
+pub struct Streams<W, E> {
+    pub output: W,
+    pub errors: E,
 }
 
-// Writes all of a part, and says whether all of it was taken.
-fn write_part(fd: i32, part: &[u8]) -> bool {
+// One write of a part's first bytes, tried again where a signal interrupts it; how many it took.
+fn write_some<W: Write>(to: &mut W, part: &[u8]) -> io::Result<usize>
+    ensures { IfOk result (λ n. Counts n part.now) }
+{
+    let mut why = Error::from(ErrorKind::Interrupted);
+    for _ in 0..TRIES {
+        match to.write(part) {
+            Ok(n) => return Ok(n),
+            Err(error) => why = error,
+        }
+        if !is_interrupted(why) {
+            return Err(why);
+        }
+    }
+    Err(why)
+}
+
+// Writes all of a part, or says why not all of it was taken.
+fn write_part<W: Write>(to: &mut W, part: &[u8]) -> io::Result<()> {
     let mut done = 0;
     while done < part.len() {
-        let n = write_some(fd, &part[done..]);
+        let n = write_some(to, &part[done..])?;
         if n == 0 {
-            return false;
+            return Err(Error::from(ErrorKind::WriteZero));
         }
         done += n;
     }
-    true
+    Ok(())
 }
 
 impl Output {
@@ -76,7 +84,12 @@ impl Output {
     // Hands a part on to standard output, and says how far that brings the output, or that it takes no more; then one
     // line to standard error says why the system did not take it. An `Output` can be copied; where one `reached` is
     // lent to all, it holds how far the program has come, and an older copy hands nothing on.
-    pub fn hand(self, part: &[u8], reached: &mut usize) -> Output
+    pub fn hand<W: Write, E: Write>(
+        self,
+        to: &mut Streams<W, E>,
+        part: &[u8],
+        reached: &mut usize,
+    ) -> Output
         ensures { Advanced self (length part.now) result reached.old reached.new }
     {
         let at = self.at;
@@ -90,8 +103,8 @@ impl Output {
         if part.len() > LARGEST - at {
             return stopped;
         }
-        if !write_part(STDOUT_FILENO, part) {
-            os::fail(b"standard output");
+        if let Err(why) = write_part(&mut to.output, part) {
+            fail(&mut to.errors, b"standard output", why);
             return stopped;
         }
         let next = at + part.len();
@@ -104,6 +117,24 @@ impl Output {
 }
 
 // Tells a line to standard error. There is nobody to tell where it is not taken.
-pub fn tell(line: &[u8]) {
-    write_part(STDERR_FILENO, line);
+pub fn tell<E: Write>(errors: &mut E, line: &[u8]) {
+    let _ = write_part(errors, line);
+}
+
+// The system's words for what went wrong, without the number that `Error` puts behind them.
+fn words_of(said: &str) -> &str {
+    match said.rfind(" (os error ") {
+        Some(end) => &said[..end],
+        None => said,
+    }
+}
+
+// Tells one line to standard error: what failed, and why.
+pub(crate) fn fail<E: Write>(errors: &mut E, what: &[u8], why: Error) {
+    let said = InlineText::<128>::of(why);
+    let words = words_of(said.as_str());
+    tell(errors, what);
+    tell(errors, b": ");
+    tell(errors, words.as_bytes());
+    tell(errors, b"\n");
 }
