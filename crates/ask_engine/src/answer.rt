@@ -9,13 +9,15 @@ use evaluator::window::window;
 use fields::float::to_bits;
 use fields::word::put;
 use form::size::size_of;
-use libc::STDOUT_FILENO;
 use lines::names::least;
 use parser::reader::read;
 use sheet::answer::Answer;
 use sheet::sheet::Sheet;
 use strict::mode::Mode;
 use windows::window::write_window;
+
+// Standard output.
+const STDOUT_FILENO: i32 = 1;
 
 // An answer as two numbers: the refusal, 0 for none, and the count.
 fn numbers(answer: Answer) -> [u8; 8] {

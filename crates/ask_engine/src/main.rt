@@ -12,7 +12,8 @@ mod request;
 ghost use Rattle.std.specs.Prelude.{◌≤◌, length};
 ghost use Rattle.io.specs.Counts.{IsPrefixLen};
 
-use libc::STDIN_FILENO;
+// Standard input.
+const STDIN_FILENO: i32 = 0;
 
 // Reads the first n bytes, or as many as there are, and says how many.
 fn read_first(bytes: &mut [u8], n: usize) -> usize

@@ -11,7 +11,9 @@ mod stretch;
 mod write;
 
 use instrument::machine::Instrument;
-use libc::STDIN_FILENO;
+
+// Standard input.
+const STDIN_FILENO: i32 = 0;
 
 // The instrument after a block of records, and whether the input may have more.
 #[derive(Clone, Copy)]

@@ -5,7 +5,9 @@ ghost use Rattle.std.specs.Prelude.{◌≤◌, length};
 
 use fields::float;
 use fields::word::put;
-use libc::STDOUT_FILENO;
+
+// Standard output.
+const STDOUT_FILENO: i32 = 1;
 
 pub fn number(w: u32) {
     let mut bytes = [0u8; 4];

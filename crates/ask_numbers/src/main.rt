@@ -11,7 +11,11 @@ mod sines;
 ghost use Rattle.std.specs.Prelude.{◌≡◌};
 ghost use Rattle.sine.specs.Quarter.{quarter};
 
-use libc::{STDIN_FILENO, STDOUT_FILENO};
+// Standard input.
+const STDIN_FILENO: i32 = 0;
+
+// Standard output.
+const STDOUT_FILENO: i32 = 1;
 
 // Reads up to a block, answers it, and says whether there may be more. A request that the input's end
 // cuts short gets no answer.

@@ -4,11 +4,13 @@ ghost use Rattle.std.specs.Prelude.{◌≡◌, length};
 ghost use Rattle.io.specs.Counts.{IsPrefixLen};
 
 use crate::{instruments, parts, words};
-use libc::STDOUT_FILENO;
 use lines::names::least;
 use meaning::reading::Reading;
 use parser::reader::read;
 use strict::mode::Mode;
+
+// Standard output.
+const STDOUT_FILENO: i32 = 1;
 
 // Room for any answer: five numbers, 16 counts, 2,048 notes and 32 instruments of 64 commands take 98,644 bytes.
 fn room() -> [u8; 131072]

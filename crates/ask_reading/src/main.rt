@@ -12,9 +12,11 @@ ghost use Rattle.std.specs.Prelude.{◌≡◌, ◌≤◌, length};
 ghost use Rattle.io.specs.Counts.{IsPrefixLen};
 
 use fields::word::word;
-use libc::STDIN_FILENO;
 use lines::names::least;
 use strict::mode::{Mode, mode_of};
+
+// Standard input.
+const STDIN_FILENO: i32 = 0;
 
 // Reads the first n bytes, or as many as there are, and says how many.
 fn read_first(bytes: &mut [u8], n: usize) -> usize
