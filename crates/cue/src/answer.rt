@@ -14,7 +14,9 @@ use form::size::Size;
 use parser::reader::read;
 use refusal::line::refused_line;
 use sheet::sheet::Sheet;
+use std::io::Write;
 use strict::mode::Mode;
+use system::output::Streams;
 
 // One byte more than a source may have is enough to see that it has too many.
 const SOURCE: usize = 32769;
@@ -45,12 +47,13 @@ fn part_buffer() -> [u8; PART]
 }
 
 // Hands `refused N L` and a line feed on: the refusal's number, and its line.
-fn hand_line(
+fn hand_line<W: Write, E: Write>(
     mode: Mode,
     size: Size,
     source: &[u8],
     number: u32,
     line: usize,
+    to: &mut Streams<W, E>,
     out: Handing,
     reached: &mut usize,
 ) -> Handing
@@ -60,7 +63,7 @@ fn hand_line(
 {
     let mut text = line_buffer();
     let n = refused_line(number, line, &mut text);
-    out.hand(mode, size, source, &text[..n], reached)
+    out.hand(mode, size, source, to, &text[..n], reached)
 }
 
 // The next bytes of a sheet's file, from place `at` on, at the buffer's start, and how many they are.
@@ -73,11 +76,12 @@ fn next(sheet: Sheet, buffer: &mut [u8], size: Size, at: usize) -> usize
 }
 
 // Hands a sheet's file on, part by part, until all of it is handed on or nobody takes it any more.
-fn hand_file(
+fn hand_file<W: Write, E: Write>(
     mode: Mode,
     size: Size,
     source: &[u8],
     sheet: Sheet,
+    to: &mut Streams<W, E>,
     out: Handing,
     reached: &mut usize,
 ) -> Handing
@@ -92,17 +96,18 @@ fn hand_file(
         if n == 0 {
             return later;
         }
-        later = later.hand(mode, size, source, &buffer[..n], reached);
+        later = later.hand(mode, size, source, to, &buffer[..n], reached);
     }
     later
 }
 
 // Hands the whole answer to a source in a mode, with the RIFF size of a name, on: where the output takes all that is
 // handed to it here, that is the answer, each byte once and in order.
-pub(crate) fn answer(
+pub(crate) fn answer<W: Write, E: Write>(
     mode: Mode,
     size: Size,
     source: &[u8],
+    to: &mut Streams<W, E>,
     out: Handing,
     reached: &mut usize,
 ) -> Handing
@@ -117,9 +122,10 @@ pub(crate) fn answer(
             source,
             reading.refusal,
             reading.line,
+            to,
             out,
             reached,
         );
     }
-    hand_file(mode, size, source, reading.sheet, out, reached)
+    hand_file(mode, size, source, reading.sheet, to, out, reached)
 }

@@ -6,10 +6,11 @@ ghost use Rattle.cue.specs.Answer.{answer_of};
 ghost use Rattle.cue.specs.Handing.{Takes, Next, Moved};
 
 use form::size::Size;
+use std::io::Write;
 use strict::mode::Mode;
-use system::output::Output;
+use system::output::{Output, Streams};
 
-#[derive(Drop)]
+#[derive(Clone, Copy)]
 pub struct Handing {
     out: Output,
 }
@@ -41,11 +42,12 @@ impl Handing {
 
     // Hands the next piece of the answer on. A `Handing` can be copied; where one `reached` is lent to all, it holds
     // how far the program has come, and an older copy cannot hand its piece on again. That there is one is seen by eye.
-    pub(crate) fn hand(
+    pub(crate) fn hand<W: Write, E: Write>(
         self,
         mode: Mode,
         size: Size,
         source: &[u8],
+        to: &mut Streams<W, E>,
         part: &[u8],
         reached: &mut usize,
     ) -> Handing
@@ -54,7 +56,7 @@ impl Handing {
         ensures { Moved self (length part.now) result reached.new }
     {
         let out = self.out;
-        let later = out.hand(part, reached);
+        let later = out.hand(to, part, reached);
         Handing { out: later }
     }
 }

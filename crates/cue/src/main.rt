@@ -13,42 +13,48 @@ use crate::answer::{answer, source_buffer};
 use crate::handing::Handing;
 use crate::words::{Asked, USE, asked_by};
 use form::size::Size;
+use std::io::{Read, Write};
 use strict::mode::Mode;
 use system::input::{Input, read_first};
-use system::output::tell;
+use system::output::{Streams, tell};
 use system::words::{word, word_count};
 
 // Hands the answer to a source on, from its first byte.
-fn respond(mode: Mode, size: Size, source: &[u8]) {
+fn respond<W: Write, E: Write>(mode: Mode, size: Size, source: &[u8], to: &mut Streams<W, E>) {
     let mut reached: usize = 0;
-    answer(mode, size, source, Handing::start(), &mut reached);
+    answer(mode, size, source, to, Handing::start(), &mut reached);
 }
 
-// Reads standard input to its end, or to one byte more than a source may have, and hands the answer on. Where it cannot
-// be read to there, nothing is handed on: half a sheet is no sheet.
-fn run(mode: Mode, size: Size) {
+// Reads an input to its end, or to one byte more than a source may have, and hands the answer on. Where it cannot be
+// read to there, nothing is handed on: half a sheet is no sheet.
+fn run<R: Read, W: Write, E: Write>(mode: Mode, size: Size, input: &mut R, to: &mut Streams<W, E>) {
     let mut bytes = source_buffer();
-    let read = read_first(&mut bytes);
+    let read = read_first(input, &mut to.errors, &mut bytes);
     match read {
         Input::Read(n) => {
-            respond(mode, size, &bytes[..n]);
+            respond(mode, size, &bytes[..n], to);
         }
         Input::Failed => {}
     }
 }
 
-fn main() {
+// The program on the streams and the words that the system has for it.
+fn main(rt: HostRuntime) {
     // A word that does not fit is none that the program understands, and counts as empty.
     let mut first = [0u8; 16];
     let mut second = [0u8; 16];
-    let m = word(1, &mut first);
-    let n = word(2, &mut second);
-    match asked_by(word_count(), &first[..m], &second[..n]) {
+    let m = word(&rt, 1, &mut first);
+    let n = word(&rt, 2, &mut second);
+    let mut to = Streams {
+        output: rt.stdout(),
+        errors: rt.stderr(),
+    };
+    match asked_by(word_count(&rt), &first[..m], &second[..n]) {
         Asked::Read(mode, size) => {
-            run(mode, size);
+            run(mode, size, &mut rt.stdin(), &mut to);
         }
         Asked::Unknown => {
-            tell(&USE);
+            tell(&mut to.errors, &USE);
         }
     }
 }
