@@ -1,0 +1,54 @@
+-- `read_lines` lends its arrays to the walk and then to the end. Assumes nothing.
+use mathlib.Core.Path.{refl, sym, ap, ◌∙◌}
+use Rattle.sheet.specs.Refusals.{Outcome, ◌>>=◌}
+use Rattle.meaning.specs.Layout.{laid_out}
+use Rattle.meaning.specs.Sheets.{Read, ended}
+use Rattle.parser.specs.Columns.{place_column}
+use borrow.Author.Rules.{rules}
+use Rattle.parser.proofs.reader.read_lines.Goals as goal
+
+pub slice_bounds-walk-end : goal.slice_bounds-walk-end
+slice_bounds-walk-end c = refl
+
+pub slice_bounds-walk-end-2 : goal.slice_bounds-walk-end-2
+slice_bounds-walk-end-2 c = refl
+
+pub slice_bounds-walk-end-3 : goal.slice_bounds-walk-end-3
+slice_bounds-walk-end-3 c = refl
+
+pub slice_bounds-walk-end-4 : goal.slice_bounds-walk-end-4
+slice_bounds-walk-end-4 c = refl
+
+pub slice_bounds-walk-end-5 : goal.slice_bounds-walk-end-5
+slice_bounds-walk-end-5 c = refl
+
+pub slice_bounds-walk-end-6 : goal.slice_bounds-walk-end-6
+slice_bounds-walk-end-6 c = refl
+
+pub walk-q-requires : goal.walk-q-requires
+walk-q-requires c = (c.requires, (refl, (refl, (refl, (refl, (refl, refl))))))
+
+pub slice_bounds-finished-end : goal.slice_bounds-finished-end
+slice_bounds-finished-end c = sym c.walk-q.auto.1.1.1.1.0
+
+pub slice_bounds-finished-end-2 : goal.slice_bounds-finished-end-2
+slice_bounds-finished-end-2 c = sym c.walk-q.auto.1.1.1.1.1.0
+
+pub slice_bounds-finished-end-3 : goal.slice_bounds-finished-end-3
+slice_bounds-finished-end-3 c = sym c.walk-q.auto.1.1.0
+
+pub slice_bounds-finished-end-4 : goal.slice_bounds-finished-end-4
+slice_bounds-finished-end-4 c = sym c.walk-q.auto.1.1.1.0
+
+pub finished-requires : goal.finished-requires
+finished-requires c =
+    let w = (c.walk-q.ensures.fits z).1 in
+    (w.instruments_few, (w.numbers_length, w.shape_length))
+
+pub returns : goal.returns
+returns c =
+    let w = c.walk-q in
+    let a = c.args in
+    let l = w.new.1 in
+    c.finished.ensures a.source.now (place_column l.1.1.1.1.1.0) l.1.1.1.1.1.0 l.0 (λ z. (w.ensures.1 z).0) (λ z. (w.ensures.1 z).1)
+    ∙ ap (λ (o : Outcome Read). laid_out (o >>= (λ x. ended a.rate x))) w.ensures.0
