@@ -57,40 +57,22 @@ loop-i-preserved c =
 
 pub returns-clause-prefix_len : goal.returns-clause-prefix_len
 returns-clause-prefix_len c =
-    (let s = c.args.requests.now in
+    let s = c.args.requests.now in
     let n = c.least-n.result in
     let l = c.loop-i in
-    let e : n * 16 / 16 ≡ n = omega arith in (
-      prefix_len_of_le (n * 16) l.out (omega arith),
-      (
-        ap (λ (k : ℕ). k * 16) c.least-n.ensures,
-        all_done s l.out l.i (n - l.i) (omega arith) ∙ rw e l.invariant.1.1.1.1,
-      ),
-    )).0
+    let e : n * 16 / 16 ≡ n = omega arith in prefix_len_of_le (n * 16) l.out (omega arith)
 
 pub returns-clause-value : goal.returns-clause-value
 returns-clause-value c =
-    (let s = c.args.requests.now in
+    let s = c.args.requests.now in
     let n = c.least-n.result in
     let l = c.loop-i in
-    let e : n * 16 / 16 ≡ n = omega arith in (
-      prefix_len_of_le (n * 16) l.out (omega arith),
-      (
-        ap (λ (k : ℕ). k * 16) c.least-n.ensures,
-        all_done s l.out l.i (n - l.i) (omega arith) ∙ rw e l.invariant.1.1.1.1,
-      ),
-    )).1
+    let e : n * 16 / 16 ≡ n = omega arith in ap (λ (k : ℕ). k * 16) c.least-n.ensures
 
 pub returns-clause-out_after : goal.returns-clause-out_after
 returns-clause-out_after c =
-    (let s = c.args.requests.now in
+    let s = c.args.requests.now in
     let n = c.least-n.result in
     let l = c.loop-i in
-    let e : n * 16 / 16 ≡ n = omega arith in (
-      prefix_len_of_le (n * 16) l.out (omega arith),
-      (
-        ap (λ (k : ℕ). k * 16) c.least-n.ensures,
-        all_done s l.out l.i (n - l.i) (omega arith) ∙ rw e l.invariant.1.1.1.1,
-      ),
-    )).2
+    let e : n * 16 / 16 ≡ n = omega arith in all_done s l.out l.i (n - l.i) (omega arith) ∙ rw e l.invariant.1.1.1.1
 

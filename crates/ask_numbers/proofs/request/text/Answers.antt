@@ -3,9 +3,6 @@ use Rattle.std.proofs.Common.{◌≡◌, ℕ, ◌+◌, ◌-◌, length, get_or, 
 use Rattle.ask_numbers.specs.Request.{text_of}
 use Rattle.ask_numbers.proofs.request.text.Goals as goal
 
-pub overflow_cast-n : goal.overflow_cast-n
-overflow_cast-n c = omega (arith, c.GIVEN 1)
-
 pub returns-then-n-gt29 : goal.returns-then-n-gt29
 unfolding text_of
 returns-then-n-gt29 c =

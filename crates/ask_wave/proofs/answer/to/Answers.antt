@@ -17,15 +17,10 @@ file_sized rate xs buffer e = ap (λ (k : Size). file_in k rate xs buffer) e
 header_sized : (rate n : ℕ) (buffer : List ℕ) {y z : Size} → y ≡ z → header_in y rate n buffer ≡ header_in z rate n buffer
 header_sized rate n buffer e = ap (λ (k : Size). header_in k rate n buffer) e
 
-pub returns-then-r-eq0-clause-value : goal.returns-then-r-eq0-clause-value
+pub returns-then-r-eq0 : goal.returns-then-r-eq0
 unfolding answer_to buffer_to
-returns-then-r-eq0-clause-value c =
-    (let is = eq-eqb _ _ c.if-r-eq0.true in record {value = rw (is, answer_to) (c.of_written.ensures ∙ ap printed c.write_file.ensures.answer); buffer_after = rw (is, buffer_to) (c.write_file.ensures.bytes ∙ file_sized _ _ _ c.type_size.ensures);}).0
-
-pub returns-then-r-eq0-clause-buffer_after : goal.returns-then-r-eq0-clause-buffer_after
-unfolding answer_to buffer_to
-returns-then-r-eq0-clause-buffer_after c =
-    (let is = eq-eqb _ _ c.if-r-eq0.true in record {value = rw (is, answer_to) (c.of_written.ensures ∙ ap printed c.write_file.ensures.answer); buffer_after = rw (is, buffer_to) (c.write_file.ensures.bytes ∙ file_sized _ _ _ c.type_size.ensures);}).1
+returns-then-r-eq0 c =
+    let is = eq-eqb _ _ c.if-r-eq0.true in record {value = rw (is, answer_to) (c.of_written.ensures ∙ ap printed c.write_file.ensures.answer); buffer_after = rw (is, buffer_to) (c.write_file.ensures.bytes ∙ file_sized _ _ _ c.type_size.ensures);}
 
 pub returns-then-r-eq1 : goal.returns-then-r-eq1
 unfolding answer_to buffer_to

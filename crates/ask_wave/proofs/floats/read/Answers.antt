@@ -50,25 +50,25 @@ loop-i-preserved c =
 
 pub returns-clause-value : goal.returns-clause-value
 returns-clause-value c =
-    (let s = c.args.bytes.now in
+    let s = c.args.bytes.now in
     let n = c.least-n.result in
     let l = c.loop-i in
     let fits : n ≤ length l.out = omega arith in
-    (omega arith, ((fits, sym (length-take-le n l.out fits)), none_left s l.out l.i (n - l.i) (omega arith) ∙ l.invariant.1.1.1.1))).0
+    omega arith
 
 pub returns-clause-upper_bound : goal.returns-clause-upper_bound
 returns-clause-upper_bound c =
-    (let s = c.args.bytes.now in
+    let s = c.args.bytes.now in
     let n = c.least-n.result in
     let l = c.loop-i in
     let fits : n ≤ length l.out = omega arith in
-    (omega arith, ((fits, sym (length-take-le n l.out fits)), none_left s l.out l.i (n - l.i) (omega arith) ∙ l.invariant.1.1.1.1))).1
+    (fits, sym (length-take-le n l.out fits))
 
 pub returns-clause-out_after : goal.returns-clause-out_after
 returns-clause-out_after c =
-    (let s = c.args.bytes.now in
+    let s = c.args.bytes.now in
     let n = c.least-n.result in
     let l = c.loop-i in
     let fits : n ≤ length l.out = omega arith in
-    (omega arith, ((fits, sym (length-take-le n l.out fits)), none_left s l.out l.i (n - l.i) (omega arith) ∙ l.invariant.1.1.1.1))).2
+    none_left s l.out l.i (n - l.i) (omega arith) ∙ l.invariant.1.1.1.1
 

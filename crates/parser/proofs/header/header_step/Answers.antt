@@ -42,11 +42,11 @@ pub overflow_add-line-2 : goal.overflow_add-line-2
 overflow_add-line-2 c = omega (arith, line_small _ _ _ _ c.requires.0, c.kept-b.ensures.block.few)
 
 pub shape_of-numbers-then-b-ne0 : goal.shape_of-numbers-then-b-ne0
-shape_of-numbers-then-b-ne0 c = c.kept-b.auto.1.1.0
+shape_of-numbers-then-b-ne0 c = c.kept-b.auto.mode.0
 
 pub shape_of-shape-then-b-ne0 : goal.shape_of-shape-then-b-ne0
 shape_of-shape-then-b-ne0 c =
-    c.kept-b.auto.1.1.1.0 ∙ names_back c.args.shape.now c.requires.1.1.1 c.header_line-number.new.1.1.1.0 c.header_line-number.auto.1.1.1.0
+    c.kept-b.auto.mode.1.0 ∙ names_back c.args.shape.now c.requires.1.1.1 c.header_line-number.new.1.1.1.0 c.header_line-number.auto.1.1.1.0
 
 pub returns-then-b-ne0 : goal.returns-then-b-ne0
 returns-then-b-ne0 c places fs is ls bs w g =
@@ -55,11 +55,11 @@ returns-then-b-ne0 c places fs is ls bs w g =
     c.header_line-number.new.1.1.1.0 c.header_line-number.auto.1.1.1.0 c.kept-b.result c.kept-b.new.1.1.0 c.kept-b.new.1.1.1.0 c.kept-b.ensures _ c.if-b-ne0.true)
 
 pub shape_of-numbers : goal.shape_of-numbers
-shape_of-numbers c = c.kept-b.auto.1.1.0
+shape_of-numbers c = c.kept-b.auto.mode.0
 
 pub shape_of-shape : goal.shape_of-shape
 shape_of-shape c =
-    c.kept-b.auto.1.1.1.0 ∙ names_back c.args.shape.now c.requires.1.1.1 c.header_line-number.new.1.1.1.0 c.header_line-number.auto.1.1.1.0
+    c.kept-b.auto.mode.1.0 ∙ names_back c.args.shape.now c.requires.1.1.1 c.header_line-number.new.1.1.1.0 c.header_line-number.auto.1.1.1.0
 
 pub returns : goal.returns
 returns c places fs is ls bs w g =

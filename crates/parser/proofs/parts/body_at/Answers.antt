@@ -56,23 +56,23 @@ slice_bounds-read_part-end-3 c =
 pub shape_of-floats : goal.shape_of-floats
 shape_of-floats c =
     let e = c.read_part in
-    back_long 6144 c.args.k c.args.floats.now e.new.1.1.1.1.1.1.0 (omega (arith, c.requires.0, c.requires.1.0)) e.auto.1.1.1.1.1.1.0
+    back_long 6144 c.args.k c.args.floats.now e.new.st.1.1.1.0 (omega (arith, c.requires.0, c.requires.1.0)) e.auto.1.1.1.1.1.1.0
 
 pub shape_of-bytes : goal.shape_of-bytes
 shape_of-bytes c =
     let e = c.read_part in
-    back_long 2048 c.args.k c.args.bytes.now e.new.1.1.1.1.1.1.1.0 (omega (arith, c.requires.0, c.requires.1.1.0)) e.auto.1.1.1.1.1.1.1.0
+    back_long 2048 c.args.k c.args.bytes.now e.new.st.1.1.1.1.0 (omega (arith, c.requires.0, c.requires.1.1.0)) e.auto.1.1.1.1.1.1.1.0
 
 pub shape_of-loops : goal.shape_of-loops
 shape_of-loops c =
     let e = c.read_part in
-    back_long 16 c.args.k c.args.loops.now e.new.1.1.1.1.1.1.1.1.0 (omega (arith, c.requires.0, c.requires.1.1.1.0)) e.auto.1.1.1.1.1.1.1.1.0
+    back_long 16 c.args.k c.args.loops.now e.new.st.1.1.1.1.1.0 (omega (arith, c.requires.0, c.requires.1.1.1.0)) e.auto.1.1.1.1.1.1.1.1.0
 
 pub returns : goal.returns
 returns c =
     let a = c.args in
     let p = c.requires in
-    let l = c.read_part.new.1.1.1.1.1.1 in
+    let l = c.read_part.new.st.1.1.1 in
     let k = c.read_part.auto.1.1.1.1.1.1 in
     let h = c.read_part.ensures in record {body = body_came (book_in a.rate a.source.now a.macros.now a.bodies.now a.names.now a.releases.now) a.line a.text.now a.st c.read_part.result
           a.k a.floats.now a.bytes.now a.loops.now l.0 l.1.0 l.1.1.0
