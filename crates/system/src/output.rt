@@ -1,11 +1,14 @@
 // Standard output, which takes an answer in order, and standard error, which takes a line. Elsewhere an `Output` can be
 // made at its start alone and not be changed, so that one at a later place is had only by handing on all before it.
 
-ghost use Rattle.std.specs.Prelude.{◌≡◌, true, length, IfOk};
+ghost use Rattle.std.specs.Prelude.{◌≡◌, ◌≢◌, true, length, IfOk, IfErr, OnOk};
+ghost use Rattle.std.specs.IoError.{error_kind};
+ghost use Rattle.std.specs.Io.{StartsWith};
+ghost use Rattle.std.specs.Io.KnownBytes.{Appends, Keeps, WriteAppends};
 ghost use Rattle.system.specs.Counts.{Counts};
-ghost use Rattle.system.specs.Moving.{Advanced};
+ghost use Rattle.system.specs.Moving.{Advanced, AppendsFirst, Written};
 
-use crate::input::{TRIES, is_interrupted};
+use crate::input::{TRIES, is_interrupted, tired};
 use std::fmt::InlineText;
 use std::io;
 use std::io::{Error, ErrorKind, Write};
@@ -30,23 +33,28 @@ pub struct Streams<W, E> {
 
 // One write of a part's first bytes, tried again where a signal interrupts it; how many it took.
 fn write_some<W: Write>(to: &mut W, part: &[u8]) -> io::Result<usize>
-    ensures { IfOk result (λ n. Counts n part.now) }
+    ensures count { IfOk result (λ n. Counts n part.now) }
+    ensures bytes { WriteAppends (W.contents to.old) (W.contents to.new) result part.now }
+    ensures again { IfErr result (λ why. error_kind why ≢ ErrorKind.Interrupted) }
 {
-    let mut why = Error::from(ErrorKind::Interrupted);
     for _ in 0..TRIES {
         match to.write(part) {
             Ok(n) => return Ok(n),
-            Err(error) => why = error,
-        }
-        if !is_interrupted(why) {
-            return Err(why);
+            Err(why) => {
+                if !is_interrupted(why) {
+                    return Err(why);
+                }
+            }
         }
     }
-    Err(why)
+    Err(tired())
 }
 
 // Writes all of a part, or says why not all of it was taken.
-fn write_part<W: Write>(to: &mut W, part: &[u8]) -> io::Result<()> {
+fn write_part<W: Write>(to: &mut W, part: &[u8]) -> io::Result<()>
+    ensures all { OnOk result (Appends (W.contents to.old) (W.contents to.new) part.now) }
+    ensures first { AppendsFirst (W.contents to.old) (W.contents to.new) part.now }
+{
     let mut done = 0;
     while done < part.len() {
         let n = write_some(to, &part[done..])?;
@@ -90,7 +98,11 @@ impl Output {
         part: &[u8],
         reached: &mut usize,
     ) -> Output
-        ensures { Advanced self (length part.now) result reached.old reached.new }
+        ensures place { Advanced self (length part.now) result reached.old reached.new }
+        ensures bytes { Written self part.now result reached.old
+            (W.contents to.old.output) (W.contents to.new.output) }
+        ensures quiet { result.taking ≡ true
+            → Keeps (E.contents to.old.errors) (E.contents to.new.errors) }
     {
         let at = self.at;
         let stopped = Output { at, taking: false };
@@ -117,12 +129,16 @@ impl Output {
 }
 
 // Tells a line to standard error. There is nobody to tell where it is not taken.
-pub fn tell<E: Write>(errors: &mut E, line: &[u8]) {
+pub fn tell<E: Write>(errors: &mut E, line: &[u8])
+    ensures { AppendsFirst (E.contents errors.old) (E.contents errors.new) line.now }
+{
     let _ = write_part(errors, line);
 }
 
 // The system's words for what went wrong, without the number that `Error` puts behind them.
-fn words_of(said: &str) -> &str {
+fn words_of(said: &str) -> &str
+    ensures { StartsWith said.now result.now }
+{
     match said.rfind(" (os error ") {
         Some(end) => &said[..end],
         None => said,
