@@ -20,7 +20,7 @@ header_sized rate n buffer e = ap (λ (k : Size). header_in k rate n buffer) e
 pub returns-then-r-eq0 : goal.returns-then-r-eq0
 unfolding answer_to buffer_to
 returns-then-r-eq0 c =
-    let is = eq-eqb _ _ c.if-r-eq0.true in record {value = rw (is, answer_to) (c.of_written.ensures ∙ ap printed c.write_file.ensures.answer); buffer_after = rw (is, buffer_to) (c.write_file.ensures.bytes ∙ file_sized _ _ _ c.type_size.ensures);}
+    let is = eq-eqb _ _ c.if-r-eq0.true in record {value = rw (is, answer_to) (c.of_written.ensures ∙ ap printed c.write_file.ensures.answer); buffer_after = rw (is, buffer_to) (c.write_file.ensures.bytes ∙ file_sized _ _ _ c.size_of.ensures);}
 
 pub returns-then-r-eq1 : goal.returns-then-r-eq1
 unfolding answer_to buffer_to

@@ -21,7 +21,7 @@ slice_bounds-header_line-end c =
 
 pub shape_of-shape-then-number-ne0 : goal.shape_of-shape-then-number-ne0
 shape_of-shape-then-number-ne0 c =
-    names_back c.args.shape.now c.requires.1.1.1 c.header_line-number.new.1.1.1.0 c.header_line-number.auto.1.1.1.0
+    names_back c.args.shape.now c.requires.1.1.1 c.header_line-number.new.names c.header_line-number.auto.names
 
 pub returns-then-number-ne0 : goal.returns-then-number-ne0
 returns-then-number-ne0 c places fs is ls bs w g =
@@ -32,7 +32,7 @@ pub kept-b-requires : goal.kept-b-requires
 kept-b-requires c =
     let l = c.requires.1.1 in (
       header_few c.args.source.now c.args.r _ c.args.end c.args.next c.header_line-number.result c.requires.0 c.requires.1.0 (names_long c.args.shape.now l.1) (c.header_line-number.ensures.number c.args.r.line) c.if-number-ne0.false,
-      (l.0, names_back c.args.shape.now l.1 c.header_line-number.new.1.1.1.0 c.header_line-number.auto.1.1.1.0 ∙ l.1),
+      (l.0, names_back c.args.shape.now l.1 c.header_line-number.new.names c.header_line-number.auto.names ∙ l.1),
     )
 
 pub overflow_add-line : goal.overflow_add-line
@@ -42,27 +42,27 @@ pub overflow_add-line-2 : goal.overflow_add-line-2
 overflow_add-line-2 c = omega (arith, line_small _ _ _ _ c.requires.0, c.kept-b.ensures.block.few)
 
 pub shape_of-numbers-then-b-ne0 : goal.shape_of-numbers-then-b-ne0
-shape_of-numbers-then-b-ne0 c = c.kept-b.auto.mode.0
+shape_of-numbers-then-b-ne0 c = c.kept-b.auto.numbers
 
 pub shape_of-shape-then-b-ne0 : goal.shape_of-shape-then-b-ne0
 shape_of-shape-then-b-ne0 c =
-    c.kept-b.auto.mode.1.0 ∙ names_back c.args.shape.now c.requires.1.1.1 c.header_line-number.new.1.1.1.0 c.header_line-number.auto.1.1.1.0
+    c.kept-b.auto.shape ∙ names_back c.args.shape.now c.requires.1.1.1 c.header_line-number.new.names c.header_line-number.auto.names
 
 pub returns-then-b-ne0 : goal.returns-then-b-ne0
 returns-then-b-ne0 c places fs is ls bs w g =
     goes_as _ _ c.args.source.now places c.args.r c.refused-then-b-ne0.result (refused_at c.args.r c.kept-b.result.refusal (c.args.r.line + 1 + c.kept-b.result.count)) fs is ls _ c.refused-then-b-ne0.ensures
     (column_block_refuses c.args.mode c.args.source.now places c.args.r fs is ls bs c.args.numbers.now c.args.shape.now c.args.end c.args.next c.header_line-number.result c.requires.0 w g (c.header_line-number.ensures.number c.args.r.line) c.if-number-ne0.false
-    c.header_line-number.new.1.1.1.0 c.header_line-number.auto.1.1.1.0 c.kept-b.result c.kept-b.new.1.1.0 c.kept-b.new.1.1.1.0 c.kept-b.ensures _ c.if-b-ne0.true)
+    c.header_line-number.new.names c.header_line-number.auto.names c.kept-b.result c.kept-b.new.numbers c.kept-b.new.shape c.kept-b.ensures _ c.if-b-ne0.true)
 
 pub shape_of-numbers : goal.shape_of-numbers
-shape_of-numbers c = c.kept-b.auto.mode.0
+shape_of-numbers c = c.kept-b.auto.numbers
 
 pub shape_of-shape : goal.shape_of-shape
 shape_of-shape c =
-    c.kept-b.auto.mode.1.0 ∙ names_back c.args.shape.now c.requires.1.1.1 c.header_line-number.new.1.1.1.0 c.header_line-number.auto.1.1.1.0
+    c.kept-b.auto.shape ∙ names_back c.args.shape.now c.requires.1.1.1 c.header_line-number.new.names c.header_line-number.auto.names
 
 pub returns : goal.returns
 returns c places fs is ls bs w g =
     column_goes c.args.mode c.args.source.now places c.args.r fs is ls bs c.args.numbers.now c.args.shape.now c.args.end c.args.next c.header_line-number.result c.requires.0 w g (c.header_line-number.ensures.number c.args.r.line) c.if-number-ne0.false
-    c.header_line-number.new.1.1.1.0 c.header_line-number.auto.1.1.1.0 c.kept-b.result c.kept-b.new.1.1.0 c.kept-b.new.1.1.1.0 c.kept-b.ensures c.if-b-ne0.false c.kept-b.auto.1.1.0
-    (c.kept-b.auto.1.1.1.0 ∙ names_back c.args.shape.now c.requires.1.1.1 c.header_line-number.new.1.1.1.0 c.header_line-number.auto.1.1.1.0) (c.header_line-number.ensures.names c.args.r.line)
+    c.header_line-number.new.names c.header_line-number.auto.names c.kept-b.result c.kept-b.new.numbers c.kept-b.new.shape c.kept-b.ensures c.if-b-ne0.false c.kept-b.auto.numbers
+    (c.kept-b.auto.shape ∙ names_back c.args.shape.now c.requires.1.1.1 c.header_line-number.new.names c.header_line-number.auto.names) (c.header_line-number.ensures.names c.args.r.line)

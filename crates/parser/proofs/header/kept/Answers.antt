@@ -8,10 +8,10 @@ pub block_at-b-requires : goal.block_at-b-requires
 block_at-b-requires c = c.requires
 
 pub shape_of-numbers-then-b-ne0 : goal.shape_of-numbers-then-b-ne0
-shape_of-numbers-then-b-ne0 c = c.block_at-b.auto.mode.0
+shape_of-numbers-then-b-ne0 c = c.block_at-b.auto.numbers
 
 pub shape_of-shape-then-b-ne0 : goal.shape_of-shape-then-b-ne0
-shape_of-shape-then-b-ne0 c = c.block_at-b.auto.mode.shape
+shape_of-shape-then-b-ne0 c = c.block_at-b.auto.shape
 
 pub returns-then-b-ne0 : goal.returns-then-b-ne0
 returns-then-b-ne0 c =

@@ -56,25 +56,25 @@ slice_bounds-read_part-end-3 c =
 pub shape_of-floats : goal.shape_of-floats
 shape_of-floats c =
     let e = c.read_part in
-    back_long 6144 c.args.k c.args.floats.now e.new.st.1.1.1.0 (omega (arith, c.requires.0, c.requires.1.0)) e.auto.1.1.1.1.1.1.0
+    back_long 6144 c.args.k c.args.floats.now e.new.floats (omega (arith, c.requires.0, c.requires.1.0)) e.auto.floats
 
 pub shape_of-bytes : goal.shape_of-bytes
 shape_of-bytes c =
     let e = c.read_part in
-    back_long 2048 c.args.k c.args.bytes.now e.new.st.1.1.1.1.0 (omega (arith, c.requires.0, c.requires.1.1.0)) e.auto.1.1.1.1.1.1.1.0
+    back_long 2048 c.args.k c.args.bytes.now e.new.instruments (omega (arith, c.requires.0, c.requires.1.1.0)) e.auto.instruments
 
 pub shape_of-loops : goal.shape_of-loops
 shape_of-loops c =
     let e = c.read_part in
-    back_long 16 c.args.k c.args.loops.now e.new.st.1.1.1.1.1.0 (omega (arith, c.requires.0, c.requires.1.1.1.0)) e.auto.1.1.1.1.1.1.1.1.0
+    back_long 16 c.args.k c.args.loops.now e.new.loops (omega (arith, c.requires.0, c.requires.1.1.1.0)) e.auto.loops
 
 pub returns : goal.returns
 returns c =
     let a = c.args in
     let p = c.requires in
-    let l = c.read_part.new.st.1.1.1 in
-    let k = c.read_part.auto.1.1.1.1.1.1 in
+    let l = c.read_part.new.floats in
+    let k = c.read_part.auto.floats in
     let h = c.read_part.ensures in record {body = body_came (book_in a.rate a.source.now a.macros.now a.bodies.now a.names.now a.releases.now) a.line a.text.now a.st c.read_part.result
-          a.k a.floats.now a.bytes.now a.loops.now l.0 l.1.0 l.1.1.0
-          p.0 p.1.0 p.1.1.0 p.1.1.1.0 p.1.1.1.1.0 p.1.1.1.1.1 k.0 k.1.0 k.1.1.0
-          (h.0, (h.1.0, h.1.1.0)); places = body_places a.k a.loops.now l.1.1.0 p.0 p.1.1.1.0 k.1.1.0;}
+          a.k a.floats.now a.bytes.now a.loops.now c.read_part.new.floats c.read_part.new.instruments c.read_part.new.loops
+          p.0 p.1.0 p.1.1.0 p.1.1.1.0 p.1.1.1.1.0 p.1.1.1.1.1 c.read_part.auto.floats c.read_part.auto.instruments c.read_part.auto.loops
+          (h.state, (h.columns, h.ready)); places = body_places a.k a.loops.now c.read_part.new.loops p.0 p.1.1.1.0 c.read_part.auto.loops;}

@@ -56,16 +56,16 @@ body_at-requires c =
     (p.0, (p.1.0, (p.1.1.0, (p.1.1.1.0, (few_as c.args.numbers.now (c.args.instruments + 1) c.requires.tables.1.0, p.1.1.1.1)))))
 
 pub shape_of-floats : goal.shape_of-floats
-shape_of-floats c = c.body_at.auto.st.1.1.1.0
+shape_of-floats c = c.body_at.auto.floats
 
 pub shape_of-bytes : goal.shape_of-bytes
-shape_of-bytes c = c.body_at.auto.st.1.1.1.1.0
+shape_of-bytes c = c.body_at.auto.bytes
 
 pub shape_of-loops : goal.shape_of-loops
-shape_of-loops c = c.body_at.auto.st.1.1.1.1.1.loops.0
+shape_of-loops c = c.body_at.auto.loops
 
 pub returns : goal.returns
 returns c =
     let a = c.args in
-    let l = c.body_at.new.st.1.1.1 in record {body = body_as a.rate a.source.now a.bodies.now a.numbers.now a.shape.now a.macros a.instruments c.requires.tables.loops.0 c.requires.tables.1.0 a.line a.text.now a.k a.st c.body_at.result
-          a.floats.now a.bytes.now a.loops.now l.0 l.1.0 l.1.1.0 c.body_at.ensures.body; places = c.body_at.ensures.places;}
+    let l = c.body_at.new.floats in record {body = body_as a.rate a.source.now a.bodies.now a.numbers.now a.shape.now a.macros a.instruments c.requires.tables.0 c.requires.tables.1.0 a.line a.text.now a.k a.st c.body_at.result
+          a.floats.now a.bytes.now a.loops.now c.body_at.new.floats c.body_at.new.bytes c.body_at.new.loops c.body_at.ensures.body; places = c.body_at.ensures.places;}

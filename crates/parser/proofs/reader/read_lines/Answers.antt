@@ -29,26 +29,25 @@ pub walk-q-requires : goal.walk-q-requires
 walk-q-requires c = (c.requires, (refl, (refl, (refl, (refl, (refl, refl))))))
 
 pub slice_bounds-finished-end : goal.slice_bounds-finished-end
-slice_bounds-finished-end c = sym c.walk-q.auto.bytes
+slice_bounds-finished-end c = sym c.walk-q.auto.floats
 
 pub slice_bounds-finished-end-2 : goal.slice_bounds-finished-end-2
-slice_bounds-finished-end-2 c = sym c.walk-q.auto.loops
+slice_bounds-finished-end-2 c = sym c.walk-q.auto.bytes
 
 pub slice_bounds-finished-end-3 : goal.slice_bounds-finished-end-3
-slice_bounds-finished-end-3 c = sym c.walk-q.auto.shape
+slice_bounds-finished-end-3 c = sym c.walk-q.auto.numbers
 
 pub slice_bounds-finished-end-4 : goal.slice_bounds-finished-end-4
-slice_bounds-finished-end-4 c = sym c.walk-q.auto.floats
+slice_bounds-finished-end-4 c = sym c.walk-q.auto.shape
 
 pub finished-requires : goal.finished-requires
-finished-requires c =
-    let w = (c.walk-q.ensures.fits z).numbers in
+finished-requires c z =
+    let w = (c.walk-q.ensures.fits z).1 in
     (w.instruments_few, (w.numbers_length, w.shape_length))
 
 pub returns : goal.returns
 returns c =
     let w = c.walk-q in
     let a = c.args in
-    let l = w.new.numbers in
-    c.finished.ensures a.source.now (place_column l.1.1.1.1.1.0) l.1.1.1.1.1.0 l.0 (λ z. (w.ensures.1 z).0) (λ z. (w.ensures.1 z).1)
-    ∙ ap (λ (o : Outcome Read). laid_out (o >>= (λ x. ended a.rate x))) w.ensures.0
+    c.finished.ensures a.source.now (place_column w.new.loops) w.new.loops w.new.bodies (λ z. (w.ensures.fits z).0) (λ z. (w.ensures.fits z).1)
+    ∙ ap (λ (o : Outcome Read). laid_out (o >>= (λ x. ended a.rate x))) w.ensures.means

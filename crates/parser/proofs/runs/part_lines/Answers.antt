@@ -116,7 +116,7 @@ state_of-before-requires c =
     let b = walking_begins _ _ _ _ _ _ _ _ _ _ w _ c.line_at-line.ensures c.loop-r-test.true c.requires.0 in
     let p = c.part_of-p in
     let n = c.line_at-line.result in
-    (part_there a.rate a.source.now a.bodies.now a.numbers.now a.shape.now l.r l.floats l.bytes l.loops n.end n.next b w.fits w.tabled p.result p.ensures (not-false _ c.if-not-p.false) c.if-k-ge16.false c.named.new.loops.0 c.named.ensures c.named.auto.0).1.1.1.1.1
+    (part_there a.rate a.source.now a.bodies.now a.numbers.now a.shape.now l.r l.floats l.bytes l.loops n.end n.next b w.fits w.tabled p.result p.ensures (not-false _ c.if-not-p.false) c.if-k-ge16.false c.named.new.loops c.named.ensures c.named.auto.loops).1.1.1.1.1
 
 pub slice_bounds-played-count : goal.slice_bounds-played-count
 slice_bounds-played-count c =
@@ -159,16 +159,16 @@ played-st-requires c =
     let p = c.part_of-p in
     let n = c.line_at-line.result in
     let t = w.tabled in
-    let f = w.fits in record {columns = (c.if-k-ge16.false, (f.floats_length, (f.bytes_length, (c.named.auto.loops.0 ∙ f.loops_length, state_fits a.rate a.source.now a.bodies.now a.numbers.now a.shape.now l.r l.floats l.bytes l.loops n.end n.next b w.fits w.tabled p.result p.ensures c.if-not-p.false c.if-k-ge16.false c.named.new.0 c.named.ensures c.named.auto.0 _ _ c.state_of-before.ensures)))); tables = (t.macros_few, (t.instruments_few, (t.bodies_length, (t.numbers_length, t.shape_length))));}
+    let f = w.fits in record {columns = (c.if-k-ge16.false, (f.floats_length, (f.bytes_length, (c.named.auto.loops ∙ f.loops_length, state_fits a.rate a.source.now a.bodies.now a.numbers.now a.shape.now l.r l.floats l.bytes l.loops n.end n.next b w.fits w.tabled p.result p.ensures (not-false _ c.if-not-p.false) c.if-k-ge16.false c.named.new.loops c.named.ensures c.named.auto.loops _ _ c.state_of-before.ensures)))); tables = (t.macros_few, (t.instruments_few, (t.bodies_length, (t.numbers_length, t.shape_length))));}
 
 pub shape_of-floats-then-st-ne0 : goal.shape_of-floats-then-st-ne0
-shape_of-floats-then-st-ne0 c = c.played-st.auto.st.1.1.0 ∙ (c.loop-r.invariant.0 Plain).fits.floats_length ∙ sym (c.requires.1 Plain).fits.floats_length
+shape_of-floats-then-st-ne0 c = c.played-st.auto.floats ∙ (c.loop-r.invariant.0 Plain).fits.floats_length ∙ sym (c.requires.1 Plain).fits.floats_length
 
 pub shape_of-bytes-then-st-ne0 : goal.shape_of-bytes-then-st-ne0
-shape_of-bytes-then-st-ne0 c = c.played-st.auto.st.1.1.1.0 ∙ (c.loop-r.invariant.0 Plain).fits.bytes_length ∙ sym (c.requires.1 Plain).fits.bytes_length
+shape_of-bytes-then-st-ne0 c = c.played-st.auto.bytes ∙ (c.loop-r.invariant.0 Plain).fits.bytes_length ∙ sym (c.requires.1 Plain).fits.bytes_length
 
 pub shape_of-loops-then-st-ne0 : goal.shape_of-loops-then-st-ne0
-shape_of-loops-then-st-ne0 c = c.played-st.auto.st.1.1.1.1.0 ∙ c.named.auto.0 ∙ (c.loop-r.invariant.0 Plain).fits.loops_length ∙ sym (c.requires.1 Plain).fits.loops_length
+shape_of-loops-then-st-ne0 c = c.played-st.auto.loops ∙ c.named.auto.loops ∙ (c.loop-r.invariant.0 Plain).fits.loops_length ∙ sym (c.requires.1 Plain).fits.loops_length
 
 pub returns-then-st-ne0 : goal.returns-then-st-ne0
 returns-then-st-ne0 c =
@@ -179,8 +179,7 @@ returns-then-st-ne0 c =
     let p = c.part_of-p in
     let n = c.line_at-line.result in
     let y = c.played-st in
-    let m = y.new.st.1.1 in
-    λ mode. run_refuses _ _ _ _ _ _ _ _ _ (l.invariant.0 mode) _ _ _ b _ _ _ _ _ (refused_walked a.rate a.source.now a.bodies.now a.numbers.now a.shape.now l.r l.floats l.bytes l.loops n.end n.next b w.fits w.tabled p.result p.ensures c.if-not-p.false c.if-k-ge16.false c.named.new.0 c.named.ensures c.named.auto.0 _ c.state_of-before.result c.state_of-before.ensures y.result m.0 m.1.0 m.1.1.0 y.ensures.0 y.ensures.1 c.if-st-ne0.true _ refl mode) c.if-st-ne0.true
+    λ mode. run_refuses _ _ _ _ _ _ _ _ _ (l.invariant.0 mode) _ _ _ b _ _ _ _ _ (refused_walked a.rate a.source.now a.bodies.now a.numbers.now a.shape.now l.r l.floats l.bytes l.loops n.end n.next b w.fits w.tabled p.result p.ensures (not-false _ c.if-not-p.false) c.if-k-ge16.false c.named.new.loops c.named.ensures c.named.auto.loops _ c.state_of-before.result c.state_of-before.ensures y.result y.new.floats y.new.bytes y.new.loops y.ensures.body y.ensures.places c.if-st-ne0.true _ refl mode) c.if-st-ne0.true
 
 pub offset_bounds-r-k-in-loop-r-3 : goal.offset_bounds-r-k-in-loop-r-3
 offset_bounds-r-k-in-loop-r-3 c = scaled_Fits _ 16 _ c.if-k-ge16.false (lit< tt)
@@ -232,8 +231,7 @@ loop-r-preserved c =
     let p = c.part_of-p in
     let n = c.line_at-line.result in
     let y = c.played-st in
-    let m = y.new.st.1.1 in
-    let g = stored_walked a.rate a.source.now a.bodies.now a.numbers.now a.shape.now l.r l.floats l.bytes l.loops n.end n.next b w.fits w.tabled p.result p.ensures c.if-not-p.false c.if-k-ge16.false c.named.new.0 c.named.ensures c.named.auto.0 _ c.state_of-before.result c.state_of-before.ensures y.result m.0 m.1.0 m.1.1.0 y.ensures.0 y.ensures.1 c.if-st-ne0.false c.larger.result c.larger.ensures in
+    let g = stored_walked a.rate a.source.now a.bodies.now a.numbers.now a.shape.now l.r l.floats l.bytes l.loops n.end n.next b w.fits w.tabled p.result p.ensures (not-false _ c.if-not-p.false) c.if-k-ge16.false c.named.new.loops c.named.ensures c.named.auto.loops _ c.state_of-before.result c.state_of-before.ensures y.result y.new.floats y.new.bytes y.new.loops y.ensures.body y.ensures.places c.if-st-ne0.false c.larger.result c.larger.ensures in
     (λ mode. walking_more _ _ _ _ _ _ _ _ _ _ (l.invariant.0 mode) _ _ b _ _ _ _ _ _ (g mode) w.goes, later _ _ _ l.invariant.1 (lined _ _ _ _ b).onward)
 
 pub shape_of-floats : goal.shape_of-floats

@@ -39,19 +39,18 @@ header_step-requires c =
     (p.0, (g.instruments_few, (g.numbers_length, g.shape_length)))
 
 pub shape_of-numbers-then-b-eq64 : goal.shape_of-numbers-then-b-eq64
-shape_of-numbers-then-b-eq64 c = c.header_step.auto.mode.0
+shape_of-numbers-then-b-eq64 c = c.header_step.auto.numbers
 
 pub shape_of-shape-then-b-eq64 : goal.shape_of-shape-then-b-eq64
-shape_of-shape-then-b-eq64 c = c.header_step.auto.mode.1.0
+shape_of-shape-then-b-eq64 c = c.header_step.auto.shape
 
 pub returns-then-b-eq64 : goal.returns-then-b-eq64
 returns-then-b-eq64 c =
     let h = c.header_step in
     let a = c.args in
     let p = c.requires.line in
-    let l = h.new.mode in
     λ rate fs is ls f.
-    header_stepped a.mode rate a.source.now (place_column ls) a.r fs is ls (tables_in a.bodies.now a.numbers.now a.shape.now) a.next (place_column ls) h.result fs is ls (tables_in a.bodies.now l.0 l.1.0)
+    header_stepped a.mode rate a.source.now (place_column ls) a.r fs is ls (tables_in a.bodies.now a.numbers.now a.shape.now) a.next (place_column ls) h.result fs is ls (tables_in a.bodies.now h.new.numbers h.new.shape)
     (kind_here a.source.now a.r.at a.end a.next (lined _ _ _ _ p.0) _ c.if-at-end.false (λ t n e. kind_header t n (e ∙ c.if-b-eq64.true)))
     (h.ensures (place_column ls) fs is ls a.bodies.now f p.1)
 
@@ -74,19 +73,18 @@ macro_step-requires c =
     (p.0, (p.1.macros_few, p.1.shape_length))
 
 pub shape_of-bodies-then-b-eq33 : goal.shape_of-bodies-then-b-eq33
-shape_of-bodies-then-b-eq33 c = c.macro_step.auto.r.shape.0
+shape_of-bodies-then-b-eq33 c = c.macro_step.auto.bodies
 
 pub shape_of-shape-then-b-eq33 : goal.shape_of-shape-then-b-eq33
-shape_of-shape-then-b-eq33 c = c.macro_step.auto.r.shape.1.0
+shape_of-shape-then-b-eq33 c = c.macro_step.auto.shape
 
 pub returns-then-b-eq33 : goal.returns-then-b-eq33
 returns-then-b-eq33 c =
     let h = c.macro_step in
     let a = c.args in
     let p = c.requires.line in
-    let l = h.new.r.shape in
     λ rate fs is ls f.
-    macro_stepped a.mode rate a.source.now (place_column ls) a.r fs is ls (tables_in a.bodies.now a.numbers.now a.shape.now) a.next (place_column ls) h.result fs is ls (tables_in l.0 a.numbers.now l.1.0)
+    macro_stepped a.mode rate a.source.now (place_column ls) a.r fs is ls (tables_in a.bodies.now a.numbers.now a.shape.now) a.next (place_column ls) h.result fs is ls (tables_in h.new.bodies a.numbers.now h.new.shape)
     (kind_here a.source.now a.r.at a.end a.next (lined _ _ _ _ p.0) _ c.if-at-end.false (λ t n e. kind_macro t n (e ∙ c.if-b-eq33.true)))
     (h.ensures (place_column ls) fs is ls a.numbers.now f p.1)
 
