@@ -29,11 +29,11 @@ loop-left-preserved c =
     let g = c.fill in
     let f = g.ensures in
     let e = c.sines_by.ensures in (
-      mapped_size c.args.table.now g.new.values.0 _ e ∙ f.size ∙ l.invariant.0,
+      mapped_size c.args.table.now g.new.values _ e ∙ f.size ∙ l.invariant.0,
       c.mix_lanes-sum.ensures.1,
       omega (arith, l.invariant.2),
       omega (arith, c.wrapping_add_u32-pattern.ensures),
-      goes_on l.sum l.pattern l.left _ _ g.new.values.out _ c.args.table.now l.invariant.3 c.requires f e c.few-n.ensures c.mix_lanes-sum.ensures.0
+      goes_on l.sum l.pattern l.left _ _ g.new.values _ c.args.table.now l.invariant.3 c.requires f e c.few-n.ensures c.mix_lanes-sum.ensures.0
           c.wrapping_add_u32-pattern.ensures
           ∙ l.invariant.4,
     )
