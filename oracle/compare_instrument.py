@@ -91,12 +91,12 @@ def check_examples():
     summed = Instrument((UNIT, Stack(0), UNIT, UNIT))
     without, chain, chain_outside = trees.sums([trees.trees_of(pair), trees.chained(pair), trees.chained(outside)], [Fraction(1)] * 5)
     for name, found in (
-        ("by-commands", value_of(cases.from_lines(pair, (UNIT,) * 3))),
-        ("by-the-tree", without),
-        ("by-the-tree", value_of(summed)),
-        ("by-the-chain", chain),
-        ("outside-by-commands", value_of(cases.from_lines(outside, (UNIT,) * 5))),
-        ("outside-by-the-chain", chain_outside),
+        ("by_commands", value_of(cases.from_lines(pair, (UNIT,) * 3))),
+        ("by_the_tree", without),
+        ("by_the_tree", value_of(summed)),
+        ("by_the_chain", chain),
+        ("outside_by_commands", value_of(cases.from_lines(outside, (UNIT,) * 5))),
+        ("outside_by_the_chain", chain_outside),
     ):
         wanted = worked_example(name)
         if found != wanted:

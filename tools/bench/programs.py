@@ -10,12 +10,12 @@ from pathlib import Path
 HERE = Path(__file__).resolve().parent
 ROOT = HERE.parent.parent
 OUT = ROOT / "target" / "bench"
-ARCHIVE = ROOT / "target" / "staticlib" / "libstation.a"
+ARCHIVE = ROOT / "crates" / "station" / "out" / "libstation.a"
 
 OURS = "cue"
 # Another build of `cue`, where one is named.
 BEFORE = "before"
-BUILDS = {OURS: ROOT / "target" / "bin" / OURS}
+BUILDS = {OURS: ROOT / "crates" / OURS / "out" / OURS}
 # Each rival, and the oracle's sources that it is made from.
 RIVALS = {"given": "given", "ruled": "ruled", "fast": "ruled"}
 # What makes the rivals fastest. There is no -C target-cpu, since `cue` is built for every x86-64.
@@ -63,7 +63,7 @@ def put_fast_sine(folder):
 def build():
     """Builds the rivals and the launcher, and answers at how many bit patterns the two sines agree."""
     if not path_of(OURS).is_file():
-        stop("cue is not built: rt check cue")
+        stop("cue is not built: rt run builds it")
     if not shutil.which("valgrind"):
         stop("valgrind is not at hand")
     if subprocess.run([ROOT / "oracle" / "build"]).returncode != 0:

@@ -1,9 +1,5 @@
-"""Builds the archive of the crate `station` and the programs that link it, and starts them.
+"""Builds the archive of the crate `station` and the programs that link it, and starts them. All of it is for an x86-64 alone."""
 
-A machine that is no x86-64 has the archive linked by Debian's cross compiler and run by the kit's emulator, where they are at hand.
-"""
-
-import os
 import platform
 import re
 import resource
@@ -13,11 +9,12 @@ import subprocess
 from pathlib import Path
 
 ROOT = Path(__file__).resolve().parent.parent.parent
-ARCHIVE = ROOT / "target" / "staticlib" / "libstation.a"
+CRATE = ROOT / "crates" / "station"
+ARCHIVE = CRATE / "out" / "libstation.a"
 HEADER = ROOT / "include" / "cue.h"
 WORK = ROOT / "target" / "station"
 HERE = platform.machine() == "x86_64"
-COMPILER = "cc" if HERE else "x86_64-linux-gnu-gcc"
+COMPILER = "cc"
 C_WORDS = ["-std=c99", "-pedantic", "-Wall", "-Wextra", "-Werror", "-O1", "-I", HEADER.parent]
 
 
@@ -25,11 +22,11 @@ class Broken(Exception):
     """Something cannot be built, or does not run as it should."""
 
 
-def done(command, **more):
+def done(command, cwd=ROOT, **more):
     """What a command writes; Broken where it fails or does not end, with what it says."""
     name = Path(command[0]).name
     try:
-        ended = subprocess.run(command, cwd=ROOT, capture_output=True, timeout=600, **more)
+        ended = subprocess.run(command, cwd=cwd, capture_output=True, timeout=3600, **more)
     except (OSError, subprocess.TimeoutExpired) as trouble:
         raise Broken(f"{name}: {trouble}") from trouble
     if ended.returncode != 0:
@@ -42,9 +39,9 @@ def done(command, **more):
 def build_archive():
     """Has the library proved and its archive written anew."""
     ARCHIVE.unlink(missing_ok=True)
-    done(["rt", "staticlib", "station"])
+    done(["rt", "lib"], CRATE)
     if not ARCHIVE.is_file():
-        raise Broken(f"rt staticlib wrote no {ARCHIVE.name}")
+        raise Broken(f"rt lib wrote no {ARCHIVE.name}")
 
 
 def archive_names():
@@ -65,11 +62,9 @@ def header_names():
 
 def linker_absent():
     """Why no program can be linked and run, or nothing where it can."""
-    if shutil.which(COMPILER) is None:
-        return f"{COMPILER} is not on the path"
-    if not HERE and subprocess.run([ROOT / "tools" / "run", "cue"], input=b"", capture_output=True, check=False).returncode != 0:
-        return "the kit's emulator does not run here"
-    return ""
+    if not HERE:
+        return "this processor is no x86-64"
+    return "" if shutil.which(COMPILER) else f"{COMPILER} is not on the path"
 
 
 def rust_absent():
@@ -110,8 +105,6 @@ def stack_bytes():
 
 
 def run(program, text):
-    """What a linked program answers; on an x86-64 with no more stack in all than the header file says a call may take."""
-    if not HERE:
-        return done([ROOT / "tools" / "run", os.path.relpath(program, ROOT / "target" / "bin")], input=text)
+    """What a linked program answers; with no more stack in all than the header file says a call may take."""
     size = stack_bytes()
     return done([program], input=text, env={}, preexec_fn=lambda: resource.setrlimit(resource.RLIMIT_STACK, (size, size)))

@@ -7,8 +7,8 @@ oracle/stored and for texts at the edges; what each call answers, and every byte
 says of the bytes that `cue` writes for the same text, in plain mode, and of some texts in strict mode too, beside `cue strict`, and with the old RIFF
 size, beside `cue old-size`. Of a sheet whose file is longer than FRONT bytes only the first are looked at. The
 program in the header file is built and run too, and its functions are those of the archive. It prints a line with the counts, or one that
-says what differs, with status 1. Where no x86-64 program can be linked, which is so on another processor without Debian's cross compiler, it
-says that none was.
+says what differs, with status 1. Where the processor is no x86-64, for which alone there
+is a library, it says that no call was made.
 """
 
 import subprocess
