@@ -1,7 +1,7 @@
 /* cue: what a cue sheet, a text in MML, sounds like as a WAV file (16-bit mono, 44,100 Hz), for a program in C or C++.
  *
- * Link the archive that `rt staticlib station` writes, target/staticlib/libstation.a; it asks nothing of its surroundings but memcpy
- * and memset. It is for x86-64 Linux programs alone.
+ * Link the archive that `rt lib` writes in crates/station, out/libstation.a; it asks nothing of its surroundings but memcpy and
+ * memset. It is for x86-64 Linux programs alone.
  *
  * Every call takes
  *   source, source_len   the text: so many bytes, of any value; no byte ends it, so a C string goes with its strlen.

@@ -7,14 +7,19 @@ wrong program. Several may share an edit, and so a check: then each changes the 
 import re
 
 PARTS = ("src", "specs", "proofs")
-ERROR = re.compile(r"^(\S+):\d+:\d+: error: (.*(?:\n  .*)?)", re.MULTILINE)
+ERROR = re.compile(r"^(?:\./)?(\S+):\d+:\d+: error: (.*(?:\n  .*)?)", re.MULTILINE)
 # What is said where a fact fails: two sides differ, something does not follow, or what the code tests is not in what is promised. Of a name that is missing, and of what waits for another
 # line that is refused, other things are said.
 FACT = re.compile(
     r"`[^`]*`: (?:as printed, the two (?:types|sides)|computed as far as they go, the two|expected type|give a proof of that as the last argument|`\w+`: (?:the goal does not follow|no proof of|no occurrence of)|`[^`]*`\n  ≟ )"
 )
-# What is said of a function that has no proof of its own because it is found by a search, where the search finds none.
-NOT_FOUND = re.compile(r"^fn \S+: no proof: expected `[^`]*` in (\S+); `search` does not close ", re.MULTILINE)
+# What is said of a function that `search` proves, where it proves it no more.
+NOT_FOUND = re.compile(r"^fn \S+: no proof: expected answers in (?:\./)?(\S+); `search` did not prove ", re.MULTILINE)
+# A goal that nobody answers, where the prover finds values at which it is false; and a function, of which what stands before it was said.
+FALSE_GOAL = re.compile(r"^note: src/\S+: it is not proved that .*\(`([^`]+)`\); the facts known there allow values at which this goal is false$")
+FUNCTION = re.compile(r"^fn \w+::(\S+): ")
+# The answer to a goal.
+ANSWER = re.compile(r"^pub (\S+) : goal\.", re.MULTILINE)
 
 
 class Unclear(Exception):
@@ -87,8 +92,10 @@ def proof_of(texts, file, *function):
     for kind in function[:-1]:
         file = next(name for name, text in texts.items() if name.startswith("src/") and re.search(rf"^(?:pub )?(?:struct|enum) {kind}\b", text, re.MULTILINE))
     above = "/".join(["proofs", *module_of(file), *function[:-1]])
-    cycles = {found[1] for name in texts if (found := re.match(re.escape(above) + r"/(\+[\w+]+)/", name))}
-    return f"{above}/{next((cycle for cycle in cycles if function[-1] in cycle.split('+')), function[-1])}/"
+    cycle = re.search(rf"#\[cycle\((\w+)\)\]\n(?: *#\[.*\n)* *(?:pub )?(?:pub\(crate\) )?fn {function[-1]}\b", texts.get(file, ""))
+    # A function that calls itself is a cycle, too.
+    names = ["+" + cycle[1]] if cycle else ["+" + function[-1]]
+    return f"{above}/{next((name for name in names if any(it.startswith(f'{above}/{name}/') for it in texts)), function[-1])}/"
 
 
 def applied(texts, wrong):
@@ -105,7 +112,32 @@ def applied(texts, wrong):
     return found.pop() if len(found) == 1 else None
 
 
-def failed_facts(said, folder):
-    """The files below a crate in which a fact failed, from what the prover said of the copy in a folder."""
-    found = [error[1] for error in ERROR.finditer(said) if FACT.match(error[2])] + NOT_FOUND.findall(said)
-    return {path.split(folder)[-1] for path in found}
+def goals_found_false(said):
+    """Of each function, by its path with its module and type, the goals without an answer that the prover finds false."""
+    found, goals = {}, []
+    for line in said.splitlines():
+        if goal := FALSE_GOAL.match(line):
+            goals.append(goal[1])
+        elif function := FUNCTION.match(line):
+            found.setdefault(function[1], []).extend(goals)
+            goals = []
+    return found
+
+
+def folder_of(texts, path):
+    """The folder of the proof of a function by its path."""
+    *module, name = path.split("::")
+    kinds = [it for it in module if it[:1].isupper()]
+    file = "/".join(["src", *(it for it in module if it not in kinds)]) + ".rt"
+    return proof_of(texts, file if module else "src/lib.rt", *kinds, name)
+
+
+def failed_facts(said, texts):
+    """The files below a crate in which a fact failed, from what the prover said of the crate with an edit put in; `texts` are the crate's files without it.
+    A goal that is found false counts where it has no answer in that proof, as one that `search` proves, or that is new."""
+    found = {error[1] for error in ERROR.finditer(said) if FACT.match(error[2])} | set(NOT_FOUND.findall(said))
+    for path, goals in goals_found_false(said).items():
+        answers = folder_of(texts, path) + "Answers.antt"
+        if not set(goals) <= set(ANSWER.findall(texts.get(answers, ""))):
+            found.add(answers)
+    return found

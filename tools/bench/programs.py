@@ -1,6 +1,5 @@
 """The programs of the benchmark: `cue`, its three rivals built from the given Rust, and what starts and counts them."""
 
-import platform
 import re
 import shutil
 import subprocess
@@ -105,22 +104,6 @@ def instructions(name, path):
     if done.returncode != 0 or not found:
         stop(f"valgrind could not count {name}:\n{done.stderr}")
     return int(found[1].replace(",", ""))
-
-
-def emulated_instructions(path):
-    """Those of `cue` where the processor is no x86-64: the emulator logs a line for each. tools/run finds it likewise."""
-    kit = Path(subprocess.run(["rt", "doc"], capture_output=True, text=True, check=True).stdout.strip()).parent.parent
-    toolchain = kit / "on" / platform.machine() / "toolchain"
-    if not toolchain.is_dir():
-        toolchain = kit / "toolchain"
-    words = [toolchain / "bin" / "qemu-x86_64", "-one-insn-per-tb", "-d", "exec,nochain"]
-    words += [toolchain / "lib" / "ld-linux-x86-64.so.2", "--library-path", toolchain / "lib", path_of(OURS)]
-    with open(path, "rb") as sheet:
-        child = subprocess.Popen(words, stdin=sheet, stdout=subprocess.DEVNULL, stderr=subprocess.PIPE)
-        lines = sum(line.startswith(b"Trace ") for line in child.stderr)
-    if child.wait() != 0:
-        stop(f"the emulator ended with status {child.returncode}")
-    return lines
 
 
 class Launcher:
