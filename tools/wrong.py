@@ -11,7 +11,7 @@ ERROR = re.compile(r"^(?:\./)?(\S+):\d+:\d+: error: (.*(?:\n  .*)?)", re.MULTILI
 # What is said where a fact fails: two sides differ, something does not follow, or what the code tests is not in what is promised. Of a name that is missing, and of what waits for another
 # line that is refused, other things are said.
 FACT = re.compile(
-    r"`[^`]*`: (?:as printed, the two (?:types|sides)|computed as far as they go, the two|expected type|give a proof of that as the last argument|`\w+`: (?:the goal does not follow|no proof of|no occurrence of)|`[^`]*`\n  ≟ )"
+    r"`[^`]*`: (?:as printed, the two (?:types|sides)|computed as far as they go, the two|expected type|give a proof of that as the last argument|`\w+`: (?:the goal does not follow|no proof of|no occurrence of|no equation of the list has an instance in the goal)|`[^`]*`\n  ≟ )"
 )
 # What is said of a function that `search` proves, where it proves it no more.
 NOT_FOUND = re.compile(r"^fn \S+: no proof: expected answers in (?:\./)?(\S+); `search` did not prove ", re.MULTILINE)
