@@ -1,4 +1,5 @@
 pub mod Letters
 pub mod Marks
 pub mod Moves
+pub mod OneOfThree
 pub mod WholeKeys

@@ -18,10 +18,7 @@ use Rattle.keys.specs.declared.key.Accidental.{Accidental}
 use Rattle.keys.specs.declared.key.Accidental.TheVariants.{Flat, Natural, Sharp}
 use Rattle.keys.specs.Keys.{accidental_of, key_accidental, accidental_width, mark_of, mark_at}
 use Rattle.keys.specs.Keys.{is_key_letter, key_from, key_at, key_width}
-
--- "`+`, `-` or `=`"
-abbrev pub KeysAccidental : ℕ → Type 0
-KeysAccidental b = (b ≡ code "+") ⊎ ((b ≡ code "-") ⊎ (b ≡ code "="))
+pub use Rattle.keys.proofs.OneOfThree.{KeysAccidental}
 
 -- "any run of letters a to g", then an accidental
 pub record WholeKey (t : List ℕ) : Type 0 where

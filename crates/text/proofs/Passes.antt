@@ -9,11 +9,7 @@ use lib.Seq.{take_all}
 use Rattle.text.specs.Fronts.{front, after}
 use Rattle.text.proofs.Fronts.{cons_true, cons_false, Stops, take_front, after_drop}
 use Rattle.text.proofs.Joins.{front_joined, after_joined}
-
--- every byte passes the test
-abbrev pub Passes : (ℕ → Bool) → List ℕ → Type 0
-Passes p [] = Unit
-Passes p (b ∷ s) = (p b ≡ true) × Passes p s
+pub use Rattle.text.proofs.Passing.{Passes}
 
 module _ (p : ℕ → Bool) where
   -- the bytes of a front do
