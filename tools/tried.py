@@ -6,6 +6,8 @@ the edit put in, the files of the crates below, and their lines of crates.txt. S
 that CUE_KEPT names, or else among the user's cached files, and is forgotten where nobody asked for it in a month.
 """
 
+import contextlib
+import fcntl
 import hashlib
 import os
 import queue
@@ -85,10 +87,10 @@ def keep(path, said):
 
 
 def forget():
-    """Removes what nobody asked for in a month, and the rooms of runs that were killed long ago."""
+    """Removes what nobody asked for in a month."""
     for path in KEPT.iterdir():
-        if path.stat().st_mtime < time.time() - MONTH:
-            shutil.rmtree(path) if path.is_dir() else path.unlink(missing_ok=True)
+        if path.is_file() and path.stat().st_mtime < time.time() - MONTH:
+            path.unlink(missing_ok=True)
 
 
 class Copy:
@@ -149,22 +151,34 @@ def next_of(waiting):
         return None
 
 
-def all_tried(edits):
-    """What the prover says of each edit, by its key, or why nothing is known; and how many were tried now. `edits` has a crate, its files, and its files
-    with the edit put in, by key."""
-    said = {key: kept(place(name, texts)) for key, (name, _, texts) in edits.items()}
-    waiting = queue.SimpleQueue()
-    order = list(below())
-    by_crate = {}
-    for key in [key for key, text in said.items() if text is None]:
+@contextlib.contextmanager
+def room():
+    """An empty folder for the copies, for one run at a time. They take too much for a temporary folder that lies in memory, and `rt` notes each folder in which it
+    checked, so it is the same one each time."""
+    KEPT.mkdir(parents=True, exist_ok=True, mode=0o700)
+    folder = KEPT / "room"
+    with open(KEPT / "lock", "w", encoding="utf-8") as lock:
+        fcntl.flock(lock, fcntl.LOCK_EX)
+        shutil.rmtree(folder, ignore_errors=True)
+        folder.mkdir()
+        try:
+            yield folder
+        finally:
+            shutil.rmtree(folder, ignore_errors=True)
+
+
+def try_each(edits, keys, said):
+    """Tries these edits, crate by crate, in several copies side by side."""
+    order, waiting, by_crate = list(below()), queue.SimpleQueue(), {}
+    for key in sorted(keys, key=lambda key: order.index(edits[key][0])):
         by_crate.setdefault(edits[key][0], []).append(key)
-    for name in sorted(by_crate, key=order.index):
-        waiting.put(by_crate[name])
+    for of_crate in by_crate.values():
+        waiting.put(of_crate)
 
     def lane(folder):
         copy = Copy(folder)
-        while keys := next_of(waiting):
-            for key in keys:
+        while of_crate := next_of(waiting):
+            for key in of_crate:
                 name, was, texts = edits[key]
                 try:
                     said[key] = copy.tried(name, was, texts)
@@ -172,15 +186,20 @@ def all_tried(edits):
                 except NotTried as why:
                     said[key] = why
 
-    if by_crate:
-        KEPT.mkdir(parents=True, exist_ok=True, mode=0o700)
+    with room() as folder, ThreadPoolExecutor(lanes()) as pool:
+        folders = [folder / str(number) for number in range(min(lanes(), len(by_crate)))]
+        for it in folders:
+            it.mkdir()
+        for done in [pool.submit(lane, it) for it in folders]:
+            done.result()
+
+
+def all_tried(edits):
+    """What the prover says of each edit, by its key, or why nothing is known; and how many were tried now. `edits` has a crate, its files, and its files
+    with the edit put in, by key."""
+    said = {key: kept(place(name, texts)) for key, (name, _, texts) in edits.items()}
+    keys = [key for key, text in said.items() if text is None]
+    if keys:
+        try_each(edits, keys, said)
         forget()
-        count = min(lanes(), len(by_crate))
-        # The copies take too much for a temporary folder that lies in memory.
-        with tempfile.TemporaryDirectory(dir=KEPT, prefix="room-") as room, ThreadPoolExecutor(count) as pool:
-            folders = [Path(room) / str(number) for number in range(count)]
-            for folder in folders:
-                folder.mkdir()
-            for done in [pool.submit(lane, folder) for folder in folders]:
-                done.result()
-    return said, sum(map(len, by_crate.values()))
+    return said, len(keys)
