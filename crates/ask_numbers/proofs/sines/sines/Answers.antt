@@ -34,7 +34,7 @@ loop-left-preserved c =
       omega (arith, l.invariant.2),
       omega (arith, c.wrapping_add_u32-pattern.ensures),
       goes_on l.sum l.pattern l.left _ _ g.new.values _ c.args.table.now l.invariant.3 c.requires f e c.few-n.ensures c.mix_lanes-sum.ensures.0
-          c.wrapping_add_u32-pattern.ensures
+          c.wrapping_add_u32-pattern.ensures.value
           ∙ l.invariant.4,
     )
 

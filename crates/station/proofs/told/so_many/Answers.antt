@@ -1,0 +1,8 @@
+-- `so_many` makes what the definition tells. Assumes nothing.
+use mathlib.Core.Path.{refl}
+use Rattle.station.specs.Calls.{told}
+use Rattle.station.proofs.told.so_many.Goals as goal
+
+pub returns : goal.returns
+unfolding told
+returns c = refl
