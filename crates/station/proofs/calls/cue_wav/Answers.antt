@@ -12,35 +12,35 @@ pub returns-clause-size : goal.returns-clause-size
 returns-clause-size c =
     let a = c.args in
     let e = c.mode_of.ensures in
-    let z = c.type_size.ensures in
+    let z = c.size_of.ensures in
     let w = c.wav_of-answer.ensures in
-    let t = w.0 ∙ ap (λ (m : Mode). wav_told m a.source.now (length a.buffer.now)) e in
+    let t = w.answer ∙ ap (λ (m : Mode). wav_told m a.source.now (length a.buffer.now)) e in
     ap (λ (t : Told). t.count) t
 
 pub returns-clause-number : goal.returns-clause-number
 returns-clause-number c =
     let a = c.args in
     let e = c.mode_of.ensures in
-    let z = c.type_size.ensures in
+    let z = c.size_of.ensures in
     let w = c.wav_of-answer.ensures in
-    let t = w.0 ∙ ap (λ (m : Mode). wav_told m a.source.now (length a.buffer.now)) e in
+    let t = w.answer ∙ ap (λ (m : Mode). wav_told m a.source.now (length a.buffer.now)) e in
     ap (λ (t : Told). t.refusal) t
 
 pub returns-clause-line : goal.returns-clause-line
 returns-clause-line c =
     let a = c.args in
     let e = c.mode_of.ensures in
-    let z = c.type_size.ensures in
+    let z = c.size_of.ensures in
     let w = c.wav_of-answer.ensures in
-    let t = w.0 ∙ ap (λ (m : Mode). wav_told m a.source.now (length a.buffer.now)) e in
+    let t = w.answer ∙ ap (λ (m : Mode). wav_told m a.source.now (length a.buffer.now)) e in
     ap (λ (t : Told). t.line) t
 
 pub returns-clause-bytes : goal.returns-clause-bytes
 returns-clause-bytes c =
     let a = c.args in
     let e = c.mode_of.ensures in
-    let z = c.type_size.ensures in
+    let z = c.size_of.ensures in
     let w = c.wav_of-answer.ensures in
-    let t = w.0 ∙ ap (λ (m : Mode). wav_told m a.source.now (length a.buffer.now)) e in
-    w.1 ∙ ap₂ (λ (m : Mode) (z : Size). wav_written m z a.source.now a.buffer.now) e z
+    let t = w.answer ∙ ap (λ (m : Mode). wav_told m a.source.now (length a.buffer.now)) e in
+    w.bytes ∙ ap₂ (λ (m : Mode) (z : Size). wav_written m z a.source.now a.buffer.now) e z
 
