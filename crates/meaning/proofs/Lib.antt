@@ -13,3 +13,4 @@ pub mod StrictNumbers
 pub mod Throughout
 pub mod ToTheirEnds
 pub mod TokensInWords
+pub mod WholeTokens

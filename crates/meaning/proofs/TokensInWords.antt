@@ -24,15 +24,9 @@ use Rattle.meaning.specs.ReadTokens.{lines_tokens, tokens_read}
 use Rattle.meaning.specs.Sheets.{Kind, skipped, header_line, directive_line, macro_line, part_line, kind_of, taken_by}
 use Rattle.meaning.proofs.Demand3.{Every}
 use Rattle.meaning.proofs.ToTheirEnds.{every_joined}
+pub use Rattle.meaning.proofs.WholeTokens.{WholeBy}
 
 -- ---- a token
-
--- a decimal is "digits, or digits, a point, digits", at most 18 of them; a digit run is at most 4,294,967,295; a key is
--- letters a to g and an accidental
-abbrev pub WholeBy : Reader → List ℕ → Type 0
-WholeBy decimal t = WholeDecimal t
-WholeBy digits t = Passes is_digit t × (value_from 0 t ≤ value_most)
-WholeBy key t = WholeKey t
 
 -- a token is nothing but what it is read as
 abbrev pub Whole : Token → Type 0
