@@ -9,7 +9,7 @@ use lib.Ieee.Fits.{and_l, and_r}
 use lib.Ieee.Nearest.{div_same}
 use Rattle.sine.specs.Turn.{C, folded, height, sine_at, turn_sine_by}
 use Rattle.sine.specs.Phase.{field_of, position_of}
-use Rattle.sine.specs.Lanes.{LanesOf, FieldsAre, FoldsEnd, LanesAlike, has_field, having, alike, pattern_of, pattern_at, position_at, fold_at, height_at, signed_of, signed_at, turn_sine_at}
+use Rattle.sine.specs.Lanes.{LanesOf, FieldsAre, FoldsEnd, LanesAlike, has_field, having, alike, pattern_of, position_at, fold_at, height_at, signed_of, signed_at, turn_sine_at}
 use Rattle.sine.proofs.Heights.{folded_le}
 use Rattle.sine.proofs.Phase.{position_some, bits_under}
 use Rattle.sine.proofs.Sine.{sine_not_finite}

@@ -1,7 +1,6 @@
 -- Quoted texts, for names and worked examples: a text as the list of its bytes, so that an example reads as a dealer writes it.
 -- Assumes nothing.
 use Rattle.std.specs.Prelude.{List, ℕ}
-use mathlib.Core.List
 use Prim.Native.Char.{code}
 use Prim.Native.String.{String, [], ◌∷◌}
 

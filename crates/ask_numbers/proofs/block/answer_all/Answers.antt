@@ -75,4 +75,3 @@ returns-clause-out_after c =
     let n = c.least-n.result in
     let l = c.loop-i in
     let e : n * 16 / 16 ≡ n = omega arith in all_done s l.out l.i (n - l.i) (omega arith) ∙ rw e l.invariant.1.1.1.1
-

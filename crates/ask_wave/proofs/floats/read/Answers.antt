@@ -71,4 +71,3 @@ returns-clause-out_after c =
     let l = c.loop-i in
     let fits : n ≤ length l.out = omega arith in
     none_left s l.out l.i (n - l.i) (omega arith) ∙ l.invariant.1.1.1.1
-

@@ -6,4 +6,4 @@ use Rattle.ask_wave.proofs.request.room.Goals as goal
 
 pub returns : goal.returns
 returns c =
-    record {value = c.least.ensures; prefix_len = prefix_len_of_le _ _ (omega arith);}
+    record { value = c.least.ensures; prefix_len = prefix_len_of_le _ _ (omega arith) }

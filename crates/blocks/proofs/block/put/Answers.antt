@@ -91,4 +91,4 @@ shape_of-shape c = simp length-set
 pub returns : goal.returns
 returns c =
     let a = c.args in
-    let p = c.requires in record {lines = one_more a.n a.numbers.now a.shape.now a.tabs a.op p.0 p.1.0 p.1.1; rest = behind_same a.n a.numbers.now a.shape.now a.tabs a.op p.0 p.1.0 p.1.1;}
+    let p = c.requires in record { lines = one_more a.n a.numbers.now a.shape.now a.tabs a.op p.0 p.1.0 p.1.1; rest = behind_same a.n a.numbers.now a.shape.now a.tabs a.op p.0 p.1.0 p.1.1 }

@@ -53,15 +53,14 @@ loop-mode-smaller g c =
     (omega (arith, (next_piece c.args.size c.args.sheet c.loop-mode.buffer c.loop-mode.later.out.at c.next-n.result c.requires.answer.1 c.loop-mode.invariant.0 c.loop-mode.invariant.1.1 (c.next-n.ensures.count ∙ ap (next_of 44100 c.args.sheet (length c.loop-mode.buffer)) c.place.ensures) _ c.next-n.new.buffer c.requires.answer.0 (c.next-n.ensures.bytes ∙ ap (next_in c.args.size 44100 c.args.sheet c.loop-mode.buffer) c.place.ensures) c.next-n.ensures.within.1).inside, ap length c.requires.answer.0))
 
 pub loop-mode-preserved : goal.loop-mode-preserved
-loop-mode-preserved g c =
-    (
-      ap length c.next-n.ensures.bytes ∙ next_length c.args.size 44100 c.args.sheet c.loop-mode.buffer c.place.result ∙ c.loop-mode.invariant.0,
-      (
-        c.hand-later.ensures.last,
-        moved_begins (length (file_of c.args.size 44100 c.args.sheet)) _ _ c.loop-mode.later c.hand-later.result c.hand-later.ensures c.loop-mode.invariant.1.1
-            (subst (λ (k : ℕ). Begins (length (file_of c.args.size 44100 c.args.sheet)) (c.loop-mode.later.out.at + k)) c.next-n.ensures.within.1 (piece c.args.size c.args.sheet c.loop-mode.buffer c.loop-mode.later.out.at c.next-n.result c.requires.answer.1 c.loop-mode.invariant.0 c.loop-mode.invariant.1.1 (c.next-n.ensures.count ∙ ap (next_of 44100 c.args.sheet (length c.loop-mode.buffer)) c.place.ensures)).next),
-      ),
-    )
+loop-mode-preserved g c = (
+  ap length c.next-n.ensures.bytes ∙ next_length c.args.size 44100 c.args.sheet c.loop-mode.buffer c.place.result ∙ c.loop-mode.invariant.0,
+  (
+    c.hand-later.ensures.last,
+    moved_begins (length (file_of c.args.size 44100 c.args.sheet)) _ _ c.loop-mode.later c.hand-later.result c.hand-later.ensures c.loop-mode.invariant.1.1
+        (subst (λ (k : ℕ). Begins (length (file_of c.args.size 44100 c.args.sheet)) (c.loop-mode.later.out.at + k)) c.next-n.ensures.within.1 (piece c.args.size c.args.sheet c.loop-mode.buffer c.loop-mode.later.out.at c.next-n.result c.requires.answer.1 c.loop-mode.invariant.0 c.loop-mode.invariant.1.1 (c.next-n.ensures.count ∙ ap (next_of 44100 c.args.sheet (length c.loop-mode.buffer)) c.place.ensures)).next),
+  ),
+)
 
 pub returns : goal.returns
 returns g c = λ t. absurd (let z : ◌≡◌ {A = ℕ} 0 1 = cc (c.is_taking.ensures, c.loop-mode-test.false) in omega arith)

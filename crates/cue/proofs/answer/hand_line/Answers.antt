@@ -18,7 +18,7 @@ slice_bounds-hand-end g c = ((let it : Counts c.refused_line-n.result c.refused_
 
 pub hand-requires : goal.hand-requires
 hand-requires g c =
-    record {taking = c.requires.fresh.0; next = whole_next _ _ _ c.requires.fresh.1 ((let it : take c.refused_line-n.result c.refused_line-n.new.text ≡ answer_of c.args.mode c.args.size c.args.source.now = line_taken _ _ _ _ _ ((let it : 50 ≤ length c.line_buffer-text.result = omega (arith, c.line_buffer-text.ensures) in it)) c.refused_line-n.ensures.count c.refused_line-n.ensures.bytes ∙ sym c.requires.answer in it)) (omega (arith, ((let it : Counts c.refused_line-n.result c.refused_line-n.new.text = line_within _ _ _ _ _ ((let it : 50 ≤ length c.line_buffer-text.result = omega (arith, c.line_buffer-text.ensures) in it)) c.refused_line-n.ensures.count c.refused_line-n.ensures.bytes c.refused_line-n.auto.text in it)).1, c.refused_line-n.type_inv));}
+    record { taking = c.requires.fresh.0; next = whole_next _ _ _ c.requires.fresh.1 ((let it : take c.refused_line-n.result c.refused_line-n.new.text ≡ answer_of c.args.mode c.args.size c.args.source.now = line_taken _ _ _ _ _ ((let it : 50 ≤ length c.line_buffer-text.result = omega (arith, c.line_buffer-text.ensures) in it)) c.refused_line-n.ensures.count c.refused_line-n.ensures.bytes ∙ sym c.requires.answer in it)) (omega (arith, ((let it : Counts c.refused_line-n.result c.refused_line-n.new.text = line_within _ _ _ _ _ ((let it : 50 ≤ length c.line_buffer-text.result = omega (arith, c.line_buffer-text.ensures) in it)) c.refused_line-n.ensures.count c.refused_line-n.ensures.bytes c.refused_line-n.auto.text in it)).1, c.refused_line-n.type_inv)) }
 
 pub returns : goal.returns
 returns g c =

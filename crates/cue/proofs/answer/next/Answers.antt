@@ -32,4 +32,3 @@ returns-clause-bytes c =
     let same = ap length w.ensures.bytes ∙ next_length a.size 44100 a.sheet a.buffer.now a.at in
     let fits : w.result ≤ length w.new.buffer = subst (λ (n : ℕ). n ≤ length w.new.buffer) (sym w.ensures.count) (subst (λ (n : ℕ). next_of 44100 a.sheet (length a.buffer.now) a.at ≤ n) (sym same) (next_room 44100 a.sheet a.buffer.now a.at)) in
     w.ensures.bytes
-

@@ -23,7 +23,7 @@ returns-then-not-checked c =
     let k = c.check-checked in
     let e : is_sheet a.rate a.sheet ≡ false = sym (checked_passes a.rate a.sheet k.result k.ensures) ∙ (not-true _ c.if-not-checked.true) in
     let w = header_28 a.rate a.sheet a.buffer.now e in
-    record {answer = sym w; bytes = sym (header_refused a.rate a.sheet a.buffer.now a.size 28 0 w);}
+    record { answer = sym w; bytes = sym (header_refused a.rate a.sheet a.buffer.now a.size 28 0 w) }
 
 pub returns-then-buffer-lt44 : goal.returns-then-buffer-lt44
 unfolding answered
@@ -32,7 +32,7 @@ returns-then-buffer-lt44 c =
     let k = c.check-checked in
     let e : is_sheet a.rate a.sheet ≡ true = sym (checked_passes a.rate a.sheet k.result k.ensures) ∙ (not-false _ c.if-not-checked.false) in
     let w = header_30 a.rate a.sheet a.buffer.now e c.if-buffer-lt44.true in
-    record {answer = sym w; bytes = sym (header_refused a.rate a.sheet a.buffer.now a.size 30 0 w);}
+    record { answer = sym w; bytes = sym (header_refused a.rate a.sheet a.buffer.now a.size 30 0 w) }
 
 pub overflow_cast-checked : goal.overflow_cast-checked
 overflow_cast-checked c = record { fits = omega (arith, (let it : c.check-checked.result.length ≤ 2000000000 = let a = c.args in let k = c.check-checked in let e : is_sheet a.rate a.sheet ≡ true = sym (checked_passes a.rate a.sheet k.result k.ensures) ∙ (not-false _ c.if-not-checked.false) in subst (λ (n : ℕ). n ≤ 2000000000) (sym (checked_length a.rate a.sheet k.result k.ensures e)) (passing a.rate a.sheet e).length in it)) }
@@ -46,7 +46,10 @@ returns c =
     sym (checked_passes a.rate a.sheet k.result k.ensures) ∙ (not-false _ c.if-not-checked.false) in
     let n = checked_length a.rate a.sheet k.result k.ensures e in
     let l : 44 ≤ length a.buffer.now = c.if-buffer-lt44.false in
-    let w = header_taken a.rate a.sheet a.buffer.now e l in record {answer = sym w; bytes = c.write_header.ensures.bytes
+    let w = header_taken a.rate a.sheet a.buffer.now e l in record {
+      answer = sym w;
+      bytes = c.write_header.ensures.bytes
           ∙ header_put a.size a.rate _ a.buffer.now l
           ∙ ap (λ (m : ℕ). put a.buffer.now 0 (header a.size a.rate m)) n
-          ∙ sym (header_written_law a.rate a.sheet a.buffer.now a.size 44 w);}
+          ∙ sym (header_written_law a.rate a.sheet a.buffer.now a.size 44 w);
+    }

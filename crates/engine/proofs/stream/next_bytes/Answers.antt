@@ -17,22 +17,25 @@ pub returns-then-at-eq0 : goal.returns-then-at-eq0
 returns-then-at-eq0 c =
     let a = c.args in
     let w = c.write_header.ensures in
-    let z = c.if-at-eq0.true in record {count = c.count_of.ensures
+    let z = c.if-at-eq0.true in record {
+      count = c.count_of.ensures
           ∙ ap count_in w.answer
           ∙ sym (next_first a.rate a.sheet a.buffer.now)
-          ∙ ap (next_of a.rate a.sheet (length a.buffer.now)) (sym z); bytes = w.bytes ∙ header_next a.size a.rate a.sheet a.buffer.now ∙ ap (next_in a.size a.rate a.sheet a.buffer.now) (sym z);}
+          ∙ ap (next_of a.rate a.sheet (length a.buffer.now)) (sym z);
+      bytes = w.bytes ∙ header_next a.size a.rate a.sheet a.buffer.now ∙ ap (next_in a.size a.rate a.sheet a.buffer.now) (sym z);
+    }
 
 pub returns-then-at-lt44 : goal.returns-then-at-lt44
 returns-then-at-lt44 c =
     let a = c.args in
     let n = next_in_header a.rate a.sheet a.buffer.now a.at c.if-at-eq0.false c.if-at-lt44.true in
-    record {count = n; bytes = none_handed a.size a.rate a.sheet a.buffer.now a.at (sym n);}
+    record { count = n; bytes = none_handed a.size a.rate a.sheet a.buffer.now a.at (sym n) }
 
 pub returns-then-behind-eq1 : goal.returns-then-behind-eq1
 returns-then-behind-eq1 c =
     let a = c.args in
     let n = next_in_sample a.rate a.sheet a.buffer.now a.at c.if-at-lt44.false c.if-behind-eq1.true in
-    record {count = n; bytes = none_handed a.size a.rate a.sheet a.buffer.now a.at (sym n);}
+    record { count = n; bytes = none_handed a.size a.rate a.sheet a.buffer.now a.at (sym n) }
 
 pub overflow_mul-result : goal.overflow_mul-result
 overflow_mul-result c =
@@ -45,4 +48,4 @@ returns c =
     let a = c.args in
     let w = c.write_window.ensures in
     let i = (a.at - 44) / 2 in
-    let h : a.at ≡ 44 + 2 * i = even_place a.at c.if-at-lt44.false c.if-behind-eq1.false in record {count = ap (λ (n : ℕ). 2 * n) (c.count_of-2.ensures ∙ ap count_in w.answer) ∙ sym (next_samples a.rate a.sheet a.buffer.now a.at i h); bytes = w.bytes ∙ samples_next_law a.size a.rate a.sheet a.buffer.now a.at i h;}
+    let h : a.at ≡ 44 + 2 * i = even_place a.at c.if-at-lt44.false c.if-behind-eq1.false in record { count = ap (λ (n : ℕ). 2 * n) (c.count_of-2.ensures ∙ ap count_in w.answer) ∙ sym (next_samples a.rate a.sheet a.buffer.now a.at i h); bytes = w.bytes ∙ samples_next_law a.size a.rate a.sheet a.buffer.now a.at i h }

@@ -4,7 +4,6 @@ use mathlib.Core.Bool.{false, not}
 use lib.Dec.{T}
 use lib.Ieee.{Float, nan, inf, fin, is_nan, ne, to_bits}
 use lib.Ieee.Compare.{differs_from_itself, nan_differs}
-use borrow.Author.Rules.{rules}
 use Rattle.fields.proofs.float.to_bits.Goals as goal
 
 no_nan : (x : Float) → ne x x ≡ false → T (not (is_nan x))

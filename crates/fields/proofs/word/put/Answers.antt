@@ -6,7 +6,6 @@ use native.Mathlib.Numerals.{towards_suc}
 use native.Mathlib.Omega.{arith}
 use lib.ListN.{set, length-set}
 use lib.Seq.{sets}
-use borrow.Author.Rules.{rules}
 use Rattle.fields.specs.Word.{bytes_of}
 use Rattle.fields.proofs.word.put.Goals as goal
 

@@ -1,5 +1,4 @@
 -- `word` is `word_at`: four bytes, none of which overflows its share. Assumes nothing.
-use borrow.Author.Rules.{rules}
 use native.Mathlib.Omega.{arith}
 use Rattle.fields.specs.Word.{word_at}
 use Rattle.fields.proofs.word.word.Goals as goal

@@ -1,5 +1,4 @@
 -- The form with its four numbers stored is the header of the definition, byte by byte. Assumes nothing.
-use borrow.Author.Rules.{rules}
 use Rattle.form.specs.Form.{header}
 use Rattle.form.proofs.header.header.Goals as goal
 

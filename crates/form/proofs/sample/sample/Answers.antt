@@ -2,9 +2,7 @@
 -- Assumes nothing.
 use mathlib.Core.Path.{◌≡◌, ap, ◌∙◌}
 use Prim.Native.Nat.{ℕ, ◌%◌}
-use native.Mathlib.Omega.{arith}
-use borrow.Author.Rules.{rules}
-use lib.Ieee.{Float, binary32, mul, of_bits}
+use lib.Ieee.{binary32, mul, of_bits}
 use Rattle.ieee.specs.Constants.{sample_scale}
 use Rattle.form.specs.Sample.{AtMostScale, stored_of, whole16, sample16, word}
 use Rattle.form.proofs.Scaled.{clamp_small, product, whole_small, stored_nan, stored_word}

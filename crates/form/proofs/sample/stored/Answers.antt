@@ -1,7 +1,6 @@
 -- `stored` is the definition's choice, one case for each sign. Assumes nothing.
 use mathlib.Core.Path.{sym}
 use native.Mathlib.Omega.{arith}
-use borrow.Author.Rules.{rules}
 use lib.Ieee.{of_bits}
 use Rattle.form.proofs.Scaled.{stored_of_below, stored_of_above}
 use Rattle.form.proofs.sample.stored.Goals as goal

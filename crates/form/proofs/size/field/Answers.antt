@@ -2,7 +2,6 @@
 use mathlib.Core.Path.{sym, ap}
 use Rattle.form.specs.declared.size.Size.{Size}
 use Rattle.form.specs.Form.{size_field}
-use borrow.Author.Rules.{rules}
 use Rattle.form.proofs.size.field.Goals as goal
 
 pub returns-in-Published : goal.returns-in-Published

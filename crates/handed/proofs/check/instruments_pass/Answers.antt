@@ -27,8 +27,7 @@ returns-then-not-instrument_passes c =
 pub loop-i-preserved : goal.loop-i-preserved
 loop-i-preserved c =
     let l = c.loop-i in
-    let most = c.least-most in
-    (
+    let most = c.least-most in (
       omega arith,
       scan_more instrument_passes c.args.sheet.table most.result l.i _ _ _ c.loop-i-test.true (omega (arith, most.ensures, (let it : length c.args.sheet.table ≡ 32 = c.well_formed.0.1.1.1.1.1.1.0.1.0.1 in it))) l.invariant.1
           c.instrument_passes.ensures c.if-not-instrument_passes.false,

@@ -97,4 +97,3 @@ returns-clause-inside c =
     let a = c.args in
     let e = c.other_at.ensures in
     e.inside
-

@@ -111,4 +111,3 @@ returns-clause-inside c =
     let e = c.command_at.ensures in
     let l = sym c.is_note_letter.ensures ∙ c.if-is_note_letter.false in
     e.inside
-

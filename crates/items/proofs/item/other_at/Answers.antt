@@ -94,4 +94,3 @@ pub returns-clause-inside : goal.returns-clause-inside
 unfolding found_of Inside
 returns-clause-inside c =
     let a = c.args in tt
-

@@ -1,7 +1,6 @@
 -- `accidental_at` asks for one character after the other; each law of `Marks` is one answer. Assumes nothing.
 use mathlib.Core.Path.{sym, ◌∙◌}
 use native.Mathlib.Omega.{arith}
-use borrow.Author.Rules.{rules}
 use Rattle.text.proofs.Starts.{starts_within}
 use Rattle.keys.proofs.Marks.{mark_plus, mark_minus, mark_equals, mark_none}
 use Rattle.keys.proofs.key.accidental_at.Goals as goal

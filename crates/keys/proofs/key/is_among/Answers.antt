@@ -1,11 +1,5 @@
 -- `is_among` keeps that the letters still to come say whether the letter is among all of them. Assumes nothing.
-use mathlib.Core.Path.{◌≡◌, refl, sym, ◌∙◌}
-use Prim.Native.Nat.{◌-◌}
-use native.Mathlib.Omega.{arith}
-use borrow.Author.Rules.{rules}
-use lib.ListN.{length, drop}
-use Rattle.text.specs.Fronts.{front}
-use Rattle.keys.specs.Keys.{is_key_letter, among}
+use mathlib.Core.Path.{refl, sym, ◌∙◌}
 use Rattle.keys.proofs.Letters.{among_end, among_stop, among_here, among_later}
 use Rattle.keys.proofs.key.is_among.Goals as goal
 

@@ -1,12 +1,9 @@
 -- `is_among` keeps that the letters still to come say whether the letter is among all of them. Assumes nothing.
-use mathlib.Core.Path.{◌≡◌, refl, sym, ◌∙◌}
+use mathlib.Core.Path.{◌≡◌}
 use Prim.Native.Nat.{◌-◌}
-use native.Mathlib.Omega.{arith}
-use borrow.Author.Rules.{rules}
 use lib.ListN.{length, drop}
 use Rattle.text.specs.Fronts.{front}
 use Rattle.keys.specs.Keys.{is_key_letter, among}
-use Rattle.keys.proofs.Letters.{among_end, among_stop, among_here, among_later}
 use Rattle.keys.proofs.key.is_among.Given as goal
 
 abbrev pub invariant-loop-at : goal.invariant-loop-at

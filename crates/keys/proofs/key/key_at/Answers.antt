@@ -1,5 +1,4 @@
 -- `key_at` looks for each letter among those that stand there, and for the accidental behind them. Assumes nothing.
-use borrow.Author.Rules.{rules}
 use Rattle.keys.proofs.Letters.{key_found_law, key_absent}
 use Rattle.keys.proofs.key.key_at.Goals as goal
 

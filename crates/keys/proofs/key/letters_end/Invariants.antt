@@ -1,11 +1,8 @@
 -- `letters_end` keeps a `Walk` over the letters. Assumes nothing.
-use mathlib.Core.Path.{sym, ◌∙◌}
 use Prim.Native.Nat.{◌-◌}
-use native.Mathlib.Omega.{arith}
-use borrow.Author.Rules.{rules}
 use lib.ListN.{length}
 use Rattle.keys.specs.Keys.{is_key_letter}
-use Rattle.text.proofs.Walks.{Walk, walk_start, walk_more, walk_stop, walk_end}
+use Rattle.text.proofs.Walks.{Walk}
 use Rattle.keys.proofs.key.letters_end.Given as goal
 
 abbrev pub invariant-loop-at : goal.invariant-loop-at

@@ -2,7 +2,6 @@
 use mathlib.Core.Path.{sym, ◌∙◌}
 use Prim.Native.Nat.{◌+◌}
 use native.Mathlib.Omega.{arith}
-use borrow.Author.Rules.{rules}
 use Rattle.text.proofs.Starts.{starts_within}
 use Rattle.keys.proofs.Marks.{note_plus_plus, note_plus, note_minus_minus, note_minus, note_equals, note_none}
 use Rattle.keys.proofs.key.note_accidental_at.Goals as goal

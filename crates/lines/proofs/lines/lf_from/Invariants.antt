@@ -1,11 +1,8 @@
 -- `lf_from` keeps a `Walk` over the bytes that are no LF. Assumes nothing.
 use Prim.Native.Nat.{◌-◌}
-use native.Mathlib.Omega.{arith}
-use borrow.Author.Rules.{rules}
 use lib.ListN.{length}
 use Rattle.lines.specs.Lines.{is_not_lf}
-use Rattle.lines.proofs.LineCuts.{lf_fails, other_passes}
-use Rattle.text.proofs.Walks.{Walk, walk_start, walk_more, walk_stop, walk_end}
+use Rattle.text.proofs.Walks.{Walk}
 use Rattle.lines.proofs.lines.lf_from.Given as goal
 
 abbrev pub invariant-loop-at : goal.invariant-loop-at

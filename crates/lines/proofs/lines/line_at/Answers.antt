@@ -1,5 +1,4 @@
 -- `line_at` looks for the LF and then at the byte before it; each law of `LineCuts` is one answer. Assumes nothing.
-use borrow.Author.Rules.{rules}
 use Rattle.lines.proofs.LineCuts.{line_last, line_empty, line_cr, line_plain}
 use Rattle.lines.proofs.lines.line_at.Goals as goal
 

@@ -1,5 +1,4 @@
 -- `name_at` passes over the blanks, the name and the blanks behind it. Assumes nothing.
-use borrow.Author.Rules.{rules}
 use Rattle.lines.proofs.Named.{name_found}
 use Rattle.lines.proofs.names.name_at.Goals as goal
 

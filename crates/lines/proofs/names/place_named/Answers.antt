@@ -3,9 +3,8 @@ use mathlib.Core.Path.{◌≡◌, sym, ap, ◌∙◌}
 use Rattle.text.specs.Characters.{same}
 use lib.ListN.{length}
 use Prim.Native.Nat.{ℕ, ◌+◌, ◌-◌, ◌*◌, ◌≤◌, ◌<◌, min}
-use Rattle.lines.proofs.Places.{Looked, looked_start, looked_more, looked_found, looked_none, between_cut}
+use Rattle.lines.proofs.Places.{looked_start, looked_more, looked_found, looked_none, between_cut}
 use native.Mathlib.Omega.{arith}
-use borrow.Author.Rules.{rules}
 use mir.Syntax.{w64}
 use mir.Val.{Fits}
 use Rattle.lines.proofs.names.place_named.Goals as goal
@@ -68,4 +67,3 @@ returns-clause-meant c =
 pub returns-clause-within : goal.returns-clause-within
 returns-clause-within c =
     (looked_none _ _ _ _ _ c.loop-at.invariant c.loop-at-test.false).1
-

@@ -1,13 +1,7 @@
 -- `place_named` keeps a `Looked` search, and cuts each name's places at the text's end. Assumes nothing.
-use mathlib.Core.Path.{◌≡◌, sym, ap, ◌∙◌}
-use Rattle.text.specs.Characters.{same}
 use lib.ListN.{length}
-use Prim.Native.Nat.{ℕ, ◌+◌, ◌-◌, ◌*◌, ◌≤◌, ◌<◌, min}
-use Rattle.lines.proofs.Places.{Looked, looked_start, looked_more, looked_found, looked_none, between_cut}
-use native.Mathlib.Omega.{arith}
-use borrow.Author.Rules.{rules}
-use mir.Syntax.{w64}
-use mir.Val.{Fits}
+use Prim.Native.Nat.{◌-◌}
+use Rattle.lines.proofs.Places.{Looked}
 use Rattle.lines.proofs.names.place_named.Given as goal
 
 abbrev pub invariant-loop-at : goal.invariant-loop-at

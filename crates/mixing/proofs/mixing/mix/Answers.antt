@@ -81,16 +81,15 @@ pub bounds-sheet-k-then-a-e : goal.bounds-sheet-k-then-a-e
 bounds-sheet-k-then-a-e c = (let it : c.least-k.result < 32 = under c.least-k.result _ 31 c.least-k.ensures in it)
 
 pub mix_note-requires : goal.mix_note-requires
-mix_note-requires c =
-    (
-      c.table-table.ensures,
-      (let it : c.loop-n.at ≤ 34359738368 = at_most c.loop-n.n c.loop-n.at _ c.loop-n-test.true ((let it : c.loop-p.n + c.least.result ≤ 2048 = ends_within _ c.loop-p.n c.least.result _ refl c.least.ensures c.loop-p.invariant.1 in it)) c.loop-n.invariant.1 in it),
-      c.beyond-a.ensures,
-      c.least-e.ensures
-          ∙ note_reach c.loop-n.at c.samples-sounds.result (sounds_of c.args.rate ((get_or c.args.sheet.table c.least-k.result nobody)) ((get_or c.args.sheet.notes c.loop-n.n no_note))) c.args.from c.beyond.result (length c.loop-n.out) c.beyond.ensures
-          ((let it : c.samples-sounds.result ≡ sounds_of c.args.rate (player_of (instruments_of c.args.sheet) ((get_or c.args.sheet.notes c.loop-n.n no_note))) ((get_or c.args.sheet.notes c.loop-n.n no_note)) = player_sounds c.args.rate c.args.sheet.table c.args.sheet.instruments c.least-instruments.result ((get_or c.args.sheet.notes c.loop-n.n no_note)) nobody c.least-k.result c.released-release.result c.samples-sounds.result ((let it : c.least-instruments.result ≡ min c.args.sheet.instruments (length c.args.sheet.table) = c.least-instruments.ensures ∙ ap (min c.args.sheet.instruments) (sym ((let it : length c.args.sheet.table ≡ 32 = c.well_formed.0.1.1.1.1.1.1.0.1.0.1 in it))) in it)) c.released-release.ensures ((let it : c.least-k.result ≡ min ((get_or c.args.sheet.notes c.loop-n.n no_note)).instrument (length c.args.sheet.table - 1) = c.least-k.ensures ∙ ap (λ (k : ℕ). min ((get_or c.args.sheet.notes c.loop-n.n no_note)).instrument (k - 1)) (sym ((let it : length c.args.sheet.table ≡ 32 = c.well_formed.0.1.1.1.1.1.1.0.1.0.1 in it))) in it)) c.samples-sounds.ensures.0 in it) ∙ ap (λ (x : Instrument). sounds_of c.args.rate x ((get_or c.args.sheet.notes c.loop-n.n no_note))) (sym ((let it : (get_or c.args.sheet.table c.least-k.result nobody) ≡ player_of (instruments_of c.args.sheet) ((get_or c.args.sheet.notes c.loop-n.n no_note)) = (let it : 0 < c.samples-sounds.result → ((get_or c.args.sheet.table c.least-k.result nobody)) ≡ player_of (instruments_of c.args.sheet) ((get_or c.args.sheet.notes c.loop-n.n no_note)) = player_is c.args.rate c.args.sheet.table c.args.sheet.instruments c.least-instruments.result ((get_or c.args.sheet.notes c.loop-n.n no_note)) nobody c.least-k.result c.released-release.result c.samples-sounds.result ((let it : c.least-instruments.result ≡ min c.args.sheet.instruments (length c.args.sheet.table) = c.least-instruments.ensures ∙ ap (min c.args.sheet.instruments) (sym ((let it : length c.args.sheet.table ≡ 32 = c.well_formed.0.1.1.1.1.1.1.0.1.0.1 in it))) in it)) c.released-release.ensures ((let it : c.least-k.result ≡ min ((get_or c.args.sheet.notes c.loop-n.n no_note)).instrument (length c.args.sheet.table - 1) = c.least-k.ensures ∙ ap (λ (k : ℕ). min ((get_or c.args.sheet.notes c.loop-n.n no_note)).instrument (k - 1)) (sym ((let it : length c.args.sheet.table ≡ 32 = c.well_formed.0.1.1.1.1.1.1.0.1.0.1 in it))) in it)) c.samples-sounds.ensures.0 in it) (note_sounds c.loop-n.at c.samples-sounds.result c.args.from _ _ _ _ c.beyond-a.ensures c.beyond.ensures c.least-e.ensures c.if-a-e.true) in it)))),
-      c.if-a-e.true,
-    )
+mix_note-requires c = (
+  c.table-table.ensures,
+  (let it : c.loop-n.at ≤ 34359738368 = at_most c.loop-n.n c.loop-n.at _ c.loop-n-test.true ((let it : c.loop-p.n + c.least.result ≤ 2048 = ends_within _ c.loop-p.n c.least.result _ refl c.least.ensures c.loop-p.invariant.1 in it)) c.loop-n.invariant.1 in it),
+  c.beyond-a.ensures,
+  c.least-e.ensures
+      ∙ note_reach c.loop-n.at c.samples-sounds.result (sounds_of c.args.rate ((get_or c.args.sheet.table c.least-k.result nobody)) ((get_or c.args.sheet.notes c.loop-n.n no_note))) c.args.from c.beyond.result (length c.loop-n.out) c.beyond.ensures
+      ((let it : c.samples-sounds.result ≡ sounds_of c.args.rate (player_of (instruments_of c.args.sheet) ((get_or c.args.sheet.notes c.loop-n.n no_note))) ((get_or c.args.sheet.notes c.loop-n.n no_note)) = player_sounds c.args.rate c.args.sheet.table c.args.sheet.instruments c.least-instruments.result ((get_or c.args.sheet.notes c.loop-n.n no_note)) nobody c.least-k.result c.released-release.result c.samples-sounds.result ((let it : c.least-instruments.result ≡ min c.args.sheet.instruments (length c.args.sheet.table) = c.least-instruments.ensures ∙ ap (min c.args.sheet.instruments) (sym ((let it : length c.args.sheet.table ≡ 32 = c.well_formed.0.1.1.1.1.1.1.0.1.0.1 in it))) in it)) c.released-release.ensures ((let it : c.least-k.result ≡ min ((get_or c.args.sheet.notes c.loop-n.n no_note)).instrument (length c.args.sheet.table - 1) = c.least-k.ensures ∙ ap (λ (k : ℕ). min ((get_or c.args.sheet.notes c.loop-n.n no_note)).instrument (k - 1)) (sym ((let it : length c.args.sheet.table ≡ 32 = c.well_formed.0.1.1.1.1.1.1.0.1.0.1 in it))) in it)) c.samples-sounds.ensures.0 in it) ∙ ap (λ (x : Instrument). sounds_of c.args.rate x ((get_or c.args.sheet.notes c.loop-n.n no_note))) (sym ((let it : (get_or c.args.sheet.table c.least-k.result nobody) ≡ player_of (instruments_of c.args.sheet) ((get_or c.args.sheet.notes c.loop-n.n no_note)) = (let it : 0 < c.samples-sounds.result → ((get_or c.args.sheet.table c.least-k.result nobody)) ≡ player_of (instruments_of c.args.sheet) ((get_or c.args.sheet.notes c.loop-n.n no_note)) = player_is c.args.rate c.args.sheet.table c.args.sheet.instruments c.least-instruments.result ((get_or c.args.sheet.notes c.loop-n.n no_note)) nobody c.least-k.result c.released-release.result c.samples-sounds.result ((let it : c.least-instruments.result ≡ min c.args.sheet.instruments (length c.args.sheet.table) = c.least-instruments.ensures ∙ ap (min c.args.sheet.instruments) (sym ((let it : length c.args.sheet.table ≡ 32 = c.well_formed.0.1.1.1.1.1.1.0.1.0.1 in it))) in it)) c.released-release.ensures ((let it : c.least-k.result ≡ min ((get_or c.args.sheet.notes c.loop-n.n no_note)).instrument (length c.args.sheet.table - 1) = c.least-k.ensures ∙ ap (λ (k : ℕ). min ((get_or c.args.sheet.notes c.loop-n.n no_note)).instrument (k - 1)) (sym ((let it : length c.args.sheet.table ≡ 32 = c.well_formed.0.1.1.1.1.1.1.0.1.0.1 in it))) in it)) c.samples-sounds.ensures.0 in it) (note_sounds c.loop-n.at c.samples-sounds.result c.args.from _ _ _ _ c.beyond-a.ensures c.beyond.ensures c.least-e.ensures c.if-a-e.true) in it)))),
+  c.if-a-e.true,
+)
 
 pub loop-n-smaller-then-a-e : goal.loop-n-smaller-then-a-e
 loop-n-smaller-then-a-e c = less c.loop-n.n _ c.loop-n-test.true
@@ -99,8 +98,7 @@ pub loop-n-preserved-then-a-e : goal.loop-n-preserved-then-a-e
 loop-n-preserved-then-a-e c =
     let a = c.args.sheet in
     let o = c.loop-p in
-    let l = c.loop-n in
-    (
+    let l = c.loop-n in (
       more l.n _ c.loop-n-test.true,
       at_next l.n l.at c.samples-takes.result l.invariant.1 c.samples-takes.ensures.1,
       note_step c.args.rate (instruments_of a) a.counts c.least-parts.result a.notes {from = c.args.from} {covered₀ = o.covered} {all = at_note c.args.rate (instruments_of a) a.counts c.least-parts.result a.notes o.p o.n (o.n + c.least.result) 0} {out₀ = o.out} o.p l.n (o.n + c.least.result) l.at ((get_or c.args.sheet.notes c.loop-n.n no_note)) no_note l.covered l.out c.samples-sounds.result _ _ _ refl
@@ -117,8 +115,7 @@ pub loop-n-preserved : goal.loop-n-preserved
 loop-n-preserved c =
     let a = c.args.sheet in
     let o = c.loop-p in
-    let l = c.loop-n in
-    (
+    let l = c.loop-n in (
       more l.n _ c.loop-n-test.true,
       at_next l.n l.at c.samples-takes.result l.invariant.1 c.samples-takes.ensures.1,
       note_step c.args.rate (instruments_of a) a.counts c.least-parts.result a.notes {from = c.args.from} {covered₀ = o.covered} {all = at_note c.args.rate (instruments_of a) a.counts c.least-parts.result a.notes o.p o.n (o.n + c.least.result) 0} {out₀ = o.out} o.p l.n (o.n + c.least.result) l.at ((get_or c.args.sheet.notes c.loop-n.n no_note)) no_note l.covered l.out c.samples-sounds.result _ _ _ refl

@@ -34,8 +34,7 @@ unfolding offset_of
 returns-then-letter-eq98 c = (ap offset_of (sym c.if-letter-eq98.true), omega arith)
 
 pub returns : goal.returns
-returns c =
-    (
-      offset_none _ c.if-letter-eq99.false c.if-letter-eq100.false c.if-letter-eq101.false c.if-letter-eq102.false c.if-letter-eq103.false c.if-letter-eq97.false c.if-letter-eq98.false,
-      omega arith,
-    )
+returns c = (
+  offset_none _ c.if-letter-eq99.false c.if-letter-eq100.false c.if-letter-eq101.false c.if-letter-eq102.false c.if-letter-eq103.false c.if-letter-eq97.false c.if-letter-eq98.false,
+  omega arith,
+)

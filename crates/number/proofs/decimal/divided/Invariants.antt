@@ -1,11 +1,7 @@
 -- `divided` is long division: after i binary places n * 2 ^ i is the quotient times d and a rest below d.
 -- Assumes nothing.
-use mathlib.Core.Path.{◌≡◌, sym, ap, ◌∙◌}
-use mathlib.Core.Logic.{⊎_elim}
-use Prim.Native.Nat.{ℕ, ◌+◌, ◌*◌, ◌-◌, ◌^◌, ◌≤◌, ◌<◌}
-use native.Mathlib.Omega.{arith}
-use lib.Pow.{pow_mono}
-use Rattle.number.proofs.Powers.{pow_more, twice_scaled}
+use mathlib.Core.Path.{◌≡◌}
+use Prim.Native.Nat.{◌+◌, ◌*◌, ◌-◌, ◌^◌, ◌≤◌, ◌<◌}
 use Rattle.number.proofs.decimal.divided.Given as goal
 
 abbrev pub invariant-loop-i : goal.invariant-loop-i

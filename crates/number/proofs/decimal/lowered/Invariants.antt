@@ -1,11 +1,7 @@
 -- `lowered` doubles the divisor: it is d times a power of two, and at most n, so few doublings pass n.
 -- Assumes nothing.
-use mathlib.Core.Path.{◌≡◌, sym}
-use Prim.Native.Nat.{◌*◌, ◌-◌, ◌^◌, ◌≤◌, ◌<◌}
-use native.Mathlib.Nat.{mul-one}
-use native.Mathlib.Omega.{arith}
-use lib.Pow.{pow_pos}
-use Rattle.number.proofs.Powers.{pow_more, twice_scaled, exponent_lt}
+use mathlib.Core.Path.{◌≡◌}
+use Prim.Native.Nat.{◌*◌, ◌-◌, ◌^◌, ◌≤◌}
 use Rattle.number.proofs.decimal.lowered.Given as goal
 
 abbrev pub invariant-loop-number : goal.invariant-loop-number

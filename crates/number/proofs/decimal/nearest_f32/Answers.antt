@@ -4,7 +4,6 @@ use mathlib.Core.Path.{◌≡◌, refl, sym, ap, ◌∙◌}
 use mathlib.Core.Bool.{false}
 use Prim.Native.Nat.{ℕ, ◌+◌, ◌-◌, ◌*◌, ◌^◌}
 use native.Mathlib.Omega.{arith}
-use borrow.Author.Rules.{rules}
 use lib.Ieee.{binary32, round, of_bits}
 use Rattle.number.proofs.Rounding.{round_zero, raised_same, lowered_same}
 use Rattle.number.proofs.decimal.nearest_f32.Goals as goal

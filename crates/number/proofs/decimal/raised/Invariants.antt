@@ -1,11 +1,7 @@
 -- `raised` doubles: the number is n times a power of two that it is itself at least as large as, so few doublings reach d.
 -- Assumes nothing.
-use mathlib.Core.Path.{◌≡◌, sym}
+use mathlib.Core.Path.{◌≡◌}
 use Prim.Native.Nat.{◌*◌, ◌-◌, ◌^◌, ◌≤◌, ◌<◌}
-use native.Mathlib.Nat.{mul-one}
-use native.Mathlib.Omega.{arith}
-use lib.Pow.{pow_pos}
-use Rattle.number.proofs.Powers.{pow_more, twice_scaled, exponent_lt}
 use Rattle.number.proofs.decimal.raised.Given as goal
 
 abbrev pub invariant-loop-number : goal.invariant-loop-number

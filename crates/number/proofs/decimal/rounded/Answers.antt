@@ -2,7 +2,6 @@
 -- Assumes nothing.
 use Prim.Native.Nat.{◌*◌}
 use native.Mathlib.Omega.{arith}
-use borrow.Author.Rules.{rules}
 use Rattle.number.proofs.Rounding.{nearest_down, nearest_up, nearest_tie}
 use Rattle.number.proofs.decimal.rounded.Goals as goal
 

@@ -1,10 +1,8 @@
 -- `run_value` keeps a `Summing`: the digits passed make the value, and there is room for what is left of the run.
 -- Assumes nothing.
 use mathlib.Core.Path.{refl, sym, ◌∙◌}
-use Prim.Native.Nat.{◌+◌, ◌-◌, ◌*◌}
+use Prim.Native.Nat.{◌+◌, ◌*◌}
 use native.Mathlib.Omega.{arith}
-use borrow.Author.Rules.{rules}
-use lib.ListN.{length}
 use Rattle.number.specs.Digits.{is_digit}
 use Rattle.text.proofs.Fronts.{front_end, front_stop}
 use Rattle.number.proofs.Runs.{Summing, summing_room, summing_more, summing_stopped}

@@ -4,13 +4,12 @@ use mathlib.Core.Path.{◌≡◌, sym, ◌∙◌}
 use mathlib.Core.Bool.{true}
 use Prim.Native.Nat.{ℕ, ◌+◌, ◌-◌, ◌*◌, ◌/◌, ◌≤◌, ◌<◌}
 use native.Mathlib.Omega.{arith}
-use borrow.Author.Rules.{rules}
 use mir.Syntax.{w64}
 use mir.Val.{Fits}
-use lib.ListN.{length, get_or}
+use lib.ListN.{get_or}
 use Rattle.number.specs.Digits.{is_digit}
 use Rattle.text.proofs.Fronts.{front_end, front_stop}
-use Rattle.number.proofs.Runs.{Reading, reading_none, reading_more, reading_over, reading_stopped}
+use Rattle.number.proofs.Runs.{reading_none, reading_more, reading_over, reading_stopped}
 use Rattle.number.proofs.digits.eat_int.Goals as goal
 
 -- a value with one digit more, over plain numbers

@@ -1,11 +1,6 @@
 -- `run_end` keeps a `Walk` over the digits. Assumes nothing.
 use mathlib.Core.Path.{sym, ◌∙◌}
-use Prim.Native.Nat.{◌-◌}
-use native.Mathlib.Omega.{arith}
-use borrow.Author.Rules.{rules}
-use lib.ListN.{length}
-use Rattle.text.proofs.Walks.{Walk, walk_start, walk_more, walk_stop, walk_end}
-use Rattle.number.specs.Digits.{is_digit}
+use Rattle.text.proofs.Walks.{walk_start, walk_more, walk_stop, walk_end}
 use Rattle.number.proofs.digits.run_end.Goals as goal
 
 pub loop-at-init : goal.loop-at-init

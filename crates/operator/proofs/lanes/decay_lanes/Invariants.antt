@@ -1,11 +1,7 @@
 -- `decay_lanes` gives one lane after the other its level in the decay.
 -- Assumes nothing.
-use mathlib.Core.Path.{◌≡◌, subst}
-use Prim.Native.Nat.{ℕ, ◌-◌, ◌≤◌}
-use native.Mathlib.Omega.{arith}
-use borrow.Author.Rules.{rules}
+use Prim.Native.Nat.{◌-◌, ◌≤◌}
 use Rattle.operator.specs.Lanes.{Lanes, decayed_at}
-use Rattle.operator.proofs.LaneLaws.{lanes_none, lanes_more}
 use Rattle.operator.proofs.lanes.decay_lanes.Given as goal
 
 abbrev pub invariant-loop-j : goal.invariant-loop-j

@@ -1,11 +1,7 @@
 -- `lanes_within` counts: the count is the number of lanes only where the time of each is within the bounds.
 -- Assumes nothing.
-use mathlib.Core.Path.{◌≡◌, subst}
-use Prim.Native.Nat.{ℕ, ◌-◌, ◌≤◌}
-use native.Mathlib.Omega.{arith}
-use borrow.Author.Rules.{rules}
+use Prim.Native.Nat.{◌-◌, ◌≤◌}
 use Rattle.operator.specs.Lanes.{Counted}
-use Rattle.operator.proofs.LaneLaws.{counted_none, counted_more}
 use Rattle.operator.proofs.lanes.lanes_within.Given as goal
 
 abbrev pub invariant-loop-j : goal.invariant-loop-j

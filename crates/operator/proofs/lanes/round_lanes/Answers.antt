@@ -1,7 +1,6 @@
 -- `round_lanes` takes its three steps in all lanes, one after the other. Assumes nothing.
 use mathlib.Core.Path.{sym}
 use lib.Seq.{length-take-le}
-use borrow.Author.Rules.{rules}
 use native.Mathlib.Omega.{arith}
 use Rattle.sine.proofs.LaneLaws.{front_sines}
 use Rattle.operator.proofs.LaneLaws.{round_steps}

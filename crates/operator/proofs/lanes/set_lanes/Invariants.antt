@@ -1,11 +1,7 @@
 -- `set_lanes` gives one lane after the other the number.
 -- Assumes nothing.
-use mathlib.Core.Path.{◌≡◌, refl, subst}
-use Prim.Native.Nat.{ℕ, ◌-◌, ◌≤◌}
-use native.Mathlib.Omega.{arith}
-use borrow.Author.Rules.{rules}
+use Prim.Native.Nat.{◌-◌, ◌≤◌}
 use Rattle.operator.specs.Lanes.{Lanes, always}
-use Rattle.operator.proofs.LaneLaws.{lanes_none, lanes_more}
 use Rattle.operator.proofs.lanes.set_lanes.Given as goal
 
 abbrev pub invariant-loop-j : goal.invariant-loop-j

@@ -1,9 +1,8 @@
 -- `turns_lanes` gives one lane after the other its phase.
 -- Assumes nothing.
 use mathlib.Core.Path.{◌≡◌, refl, subst}
-use Prim.Native.Nat.{ℕ, ◌-◌, ◌≤◌}
+use Prim.Native.Nat.{ℕ}
 use native.Mathlib.Omega.{arith}
-use borrow.Author.Rules.{rules}
 use lib.Ieee.{of_bits}
 use Rattle.operator.specs.Evaluation.{two_pi}
 use Rattle.operator.specs.Lanes.{Lanes, turned_at}

@@ -1,13 +1,7 @@
 -- `turns_lanes` gives one lane after the other its phase.
 -- Assumes nothing.
-use mathlib.Core.Path.{◌≡◌, refl, subst}
-use Prim.Native.Nat.{ℕ, ◌-◌, ◌≤◌}
-use native.Mathlib.Omega.{arith}
-use borrow.Author.Rules.{rules}
-use lib.Ieee.{of_bits}
-use Rattle.operator.specs.Evaluation.{two_pi}
+use Prim.Native.Nat.{◌-◌, ◌≤◌}
 use Rattle.operator.specs.Lanes.{Lanes, turned_at}
-use Rattle.operator.proofs.LaneLaws.{lanes_none, lanes_more}
 use Rattle.operator.proofs.lanes.turns_lanes.Given as goal
 
 abbrev pub invariant-loop-j : goal.invariant-loop-j

@@ -1,6 +1,5 @@
 -- `within` answers 1 only behind its four tests.
 -- Assumes nothing.
-use Prim.Native.Nat.{◌-◌}
 use native.Mathlib.Omega.{arith}
 use Rattle.operator.proofs.lanes.within.Goals as goal
 

@@ -1,7 +1,6 @@
 -- `release_level` is the definition's product.
 -- Assumes nothing.
 use mathlib.Core.Path.{refl}
-use Prim.Native.Nat.{◌-◌}
 use lib.Ieee.{of_bits}
 use Rattle.operator.specs.Lanes.{release_level}
 use Rattle.operator.proofs.operator.release_level.Goals as goal

@@ -14,4 +14,3 @@ pub returns-clause-releases : goal.returns-clause-releases
 unfolding bytes
 returns-clause-releases c =
     (default_columns _ c.args.numbers.now c.args.shape.now _ _ c.requires.0 c.requires.1 (c.kept.auto.numbers ∙ c.requires.0) (c.kept.auto.shape ∙ c.requires.1) c.kept.ensures).1
-

@@ -74,7 +74,10 @@ returns c =
     let p = c.requires in
     let l = c.read_part.new.floats in
     let k = c.read_part.auto.floats in
-    let h = c.read_part.ensures in record {body = body_came (book_in a.rate a.source.now a.macros.now a.bodies.now a.names.now a.releases.now) a.line a.text.now a.st c.read_part.result
+    let h = c.read_part.ensures in record {
+      body = body_came (book_in a.rate a.source.now a.macros.now a.bodies.now a.names.now a.releases.now) a.line a.text.now a.st c.read_part.result
           a.k a.floats.now a.bytes.now a.loops.now c.read_part.new.floats c.read_part.new.instruments c.read_part.new.loops
           p.0 p.1.0 p.1.1.0 p.1.1.1.0 p.1.1.1.1.0 p.1.1.1.1.1 c.read_part.auto.floats c.read_part.auto.instruments c.read_part.auto.loops
-          (h.state, (h.columns, h.ready)); places = body_places a.k a.loops.now c.read_part.new.loops p.0 p.1.1.1.0 c.read_part.auto.loops;}
+          (h.state, (h.columns, h.ready));
+      places = body_places a.k a.loops.now c.read_part.new.loops p.0 p.1.1.1.0 c.read_part.auto.loops;
+    }

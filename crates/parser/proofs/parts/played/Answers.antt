@@ -67,5 +67,8 @@ shape_of-loops c = c.body_at.auto.loops
 pub returns : goal.returns
 returns c =
     let a = c.args in
-    let l = c.body_at.new.floats in record {body = body_as a.rate a.source.now a.bodies.now a.numbers.now a.shape.now a.macros a.instruments c.requires.tables.0 c.requires.tables.1.0 a.line a.text.now a.k a.st c.body_at.result
-          a.floats.now a.bytes.now a.loops.now c.body_at.new.floats c.body_at.new.bytes c.body_at.new.loops c.body_at.ensures.body; places = c.body_at.ensures.places;}
+    let l = c.body_at.new.floats in record {
+      body = body_as a.rate a.source.now a.bodies.now a.numbers.now a.shape.now a.macros a.instruments c.requires.tables.0 c.requires.tables.1.0 a.line a.text.now a.k a.st c.body_at.result
+          a.floats.now a.bytes.now a.loops.now c.body_at.new.floats c.body_at.new.bytes c.body_at.new.loops c.body_at.ensures.body;
+      places = c.body_at.ensures.places;
+    }

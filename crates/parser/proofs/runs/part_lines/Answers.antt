@@ -159,7 +159,7 @@ played-st-requires c =
     let p = c.part_of-p in
     let n = c.line_at-line.result in
     let t = w.tabled in
-    let f = w.fits in record {columns = (c.if-k-ge16.false, (f.floats_length, (f.bytes_length, (c.named.auto.loops ∙ f.loops_length, state_fits a.rate a.source.now a.bodies.now a.numbers.now a.shape.now l.r l.floats l.bytes l.loops n.end n.next b w.fits w.tabled p.result p.ensures (not-false _ c.if-not-p.false) c.if-k-ge16.false c.named.new.loops c.named.ensures c.named.auto.loops _ _ c.state_of-before.ensures)))); tables = (t.macros_few, (t.instruments_few, (t.bodies_length, (t.numbers_length, t.shape_length))));}
+    let f = w.fits in record { columns = (c.if-k-ge16.false, (f.floats_length, (f.bytes_length, (c.named.auto.loops ∙ f.loops_length, state_fits a.rate a.source.now a.bodies.now a.numbers.now a.shape.now l.r l.floats l.bytes l.loops n.end n.next b w.fits w.tabled p.result p.ensures (not-false _ c.if-not-p.false) c.if-k-ge16.false c.named.new.loops c.named.ensures c.named.auto.loops _ _ c.state_of-before.ensures)))); tables = (t.macros_few, (t.instruments_few, (t.bodies_length, (t.numbers_length, t.shape_length)))) }
 
 pub shape_of-floats-then-st-ne0 : goal.shape_of-floats-then-st-ne0
 shape_of-floats-then-st-ne0 c = c.played-st.auto.floats ∙ (c.loop-r.invariant.0 Plain).fits.floats_length ∙ sym (c.requires.1 Plain).fits.floats_length

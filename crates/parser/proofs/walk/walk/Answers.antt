@@ -54,7 +54,7 @@ returns-then-r-ne0 c =
     let l = c.loop-r in
     let a = c.args in
     let y = c.part_lines-r in
-    record {means = run_ended a.mode a.rate a.source.now (place_column l.loops) l.r l.floats l.bytes l.loops (tables_in l.bodies l.numbers l.shape) _ l.invariant y.result y.new.floats y.new.bytes y.new.loops (tables_in l.bodies l.numbers l.shape) (y.ensures a.mode) c.if-r-ne0.true; fits = λ z. absurd (c.if-r-ne0.true z);}
+    record { means = run_ended a.mode a.rate a.source.now (place_column l.loops) l.r l.floats l.bytes l.loops (tables_in l.bodies l.numbers l.shape) _ l.invariant y.result y.new.floats y.new.bytes y.new.loops (tables_in l.bodies l.numbers l.shape) (y.ensures a.mode) c.if-r-ne0.true; fits = λ z. absurd (c.if-r-ne0.true z) }
 
 pub shape_of-bodies-then-at-source : goal.shape_of-bodies-then-at-source
 shape_of-bodies-then-at-source c = c.loop-r.invariant.tabled.bodies_length ∙ sym c.requires.1.0
@@ -80,7 +80,7 @@ returns-then-at-source c =
     let a = c.args in
     let y = c.part_lines-r in
     let w = run_on a.mode a.rate a.source.now (place_column l.loops) l.r l.floats l.bytes l.loops (tables_in l.bodies l.numbers l.shape) _ l.invariant y.result y.new.floats y.new.bytes y.new.loops (tables_in l.bodies l.numbers l.shape) (y.ensures a.mode) c.if-r-ne0.false in
-    record {means = walking_end a.mode a.rate a.source.now (place_column y.new.loops) y.result y.new.floats y.new.bytes y.new.loops (tables_in l.bodies l.numbers l.shape) _ w c.if-at-source.true; fits = λ z. (w.fits, w.tabled);}
+    record { means = walking_end a.mode a.rate a.source.now (place_column y.new.loops) y.result y.new.floats y.new.bytes y.new.loops (tables_in l.bodies l.numbers l.shape) _ w c.if-at-source.true; fits = λ z. (w.fits, w.tabled) }
 
 pub line_step-r-requires : goal.line_step-r-requires
 line_step-r-requires c =
@@ -89,7 +89,7 @@ line_step-r-requires c =
     let y = c.part_lines-r in
     let w = run_on a.mode a.rate a.source.now (place_column l.loops) l.r l.floats l.bytes l.loops (tables_in l.bodies l.numbers l.shape) _ l.invariant y.result y.new.floats y.new.bytes y.new.loops (tables_in l.bodies l.numbers l.shape) (y.ensures a.mode) c.if-r-ne0.false in
     let b = walking_begins a.mode a.rate a.source.now (place_column y.new.loops) y.result y.new.floats y.new.bytes y.new.loops (tables_in l.bodies l.numbers l.shape) _ w _ c.line_at-line.ensures c.if-at-source.false c.requires.0 in
-    record {line = (b, w.tabled); bare = bare_as _ _ _ c.line_at-line.ensures ((y.ensures a.mode).bare c.if-r-ne0.false c.if-at-source.false);}
+    record { line = (b, w.tabled); bare = bare_as _ _ _ c.line_at-line.ensures ((y.ensures a.mode).bare c.if-r-ne0.false c.if-at-source.false) }
 
 pub shape_of-bodies-then-r-ne0-2 : goal.shape_of-bodies-then-r-ne0-2
 shape_of-bodies-then-r-ne0-2 c = c.line_step-r.auto.bodies ∙ c.loop-r.invariant.tabled.bodies_length ∙ sym c.requires.1.0
@@ -117,7 +117,7 @@ returns-then-r-ne0-2 c =
     let w = run_on a.mode a.rate a.source.now (place_column l.loops) l.r l.floats l.bytes l.loops (tables_in l.bodies l.numbers l.shape) _ l.invariant y.result y.new.floats y.new.bytes y.new.loops (tables_in l.bodies l.numbers l.shape) (y.ensures a.mode) c.if-r-ne0.false in
     let b = walking_begins a.mode a.rate a.source.now (place_column y.new.loops) y.result y.new.floats y.new.bytes y.new.loops (tables_in l.bodies l.numbers l.shape) _ w _ c.line_at-line.ensures c.if-at-source.false c.requires.0 in
     let g = c.line_step-r.ensures a.rate y.new.floats y.new.bytes y.new.loops w.fits in
-    record {means = walking_refused a.mode a.rate a.source.now (place_column y.new.loops) y.result y.new.floats y.new.bytes y.new.loops (tables_in l.bodies l.numbers l.shape) _ w _ _ b _ _ _ _ _ _ g c.if-r-ne0-2.true; fits = λ z. absurd (c.if-r-ne0-2.true z);}
+    record { means = walking_refused a.mode a.rate a.source.now (place_column y.new.loops) y.result y.new.floats y.new.bytes y.new.loops (tables_in l.bodies l.numbers l.shape) _ w _ _ b _ _ _ _ _ _ g c.if-r-ne0-2.true; fits = λ z. absurd (c.if-r-ne0-2.true z) }
 
 pub loop-r-smaller : goal.loop-r-smaller
 loop-r-smaller c =
@@ -161,4 +161,4 @@ shape_of-loops c = c.loop-r.invariant.fits.loops_length ∙ sym c.requires.1.1.1
 pub returns : goal.returns
 returns c =
     let i = c.loop-r.invariant in
-    record {means = walking_end _ _ _ _ _ _ _ _ _ _ i c.loop-r-test.false; fits = λ z. (i.fits, i.tabled);}
+    record { means = walking_end _ _ _ _ _ _ _ _ _ _ i c.loop-r-test.false; fits = λ z. (i.fits, i.tabled) }

@@ -45,4 +45,3 @@ returns-clause-ready c =
 pub returns-clause-kept : goal.returns-clause-kept
 returns-clause-kept c =
     (promised_read _ _ _ _ _ _ _ _ _ _ _ (sym c.is_ready.ensures ∙ c.if-not-is_ready.false) _ c.body-r.ensures c.settled.ensures).1.1.1
-

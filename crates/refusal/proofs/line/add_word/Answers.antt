@@ -1,7 +1,7 @@
 -- `add_word` puts the word byte by byte behind what is there. Assumes nothing.
 use mathlib.Core.Path.{◌≡◌, sym, ap, ◌∙◌}
 use mathlib.Core.List.{List}
-use Prim.Native.Nat.{ℕ, ◌+◌, ◌-◌, ◌≤◌}
+use Prim.Native.Nat.{ℕ, ◌+◌}
 use native.Mathlib.Omega.{arith}
 use native.Mathlib.Numerals.{add-one}
 use lib.ListN.{length, set, get_or}
@@ -39,4 +39,4 @@ pub returns : goal.returns
 returns c =
     let a = c.args in
     let l = c.loop-i in
-    let all : l.i ≡ length a.word.now = omega arith in record {end = omega arith; bytes = λ front behind e p. l.invariant.1 ∙ ap (paste a.text.now a.at a.word.now) all ∙ pasted front behind a.text.now a.word.now a.at e p;}
+    let all : l.i ≡ length a.word.now = omega arith in record { end = omega arith; bytes = λ front behind e p. l.invariant.1 ∙ ap (paste a.text.now a.at a.word.now) all ∙ pasted front behind a.text.now a.word.now a.at e p }

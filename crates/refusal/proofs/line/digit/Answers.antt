@@ -1,6 +1,5 @@
 -- `digit` adds the last digit's value to that of `0`. Assumes nothing.
 use mathlib.Core.Path.{refl}
-use borrow.Author.Rules.{rules}
 use Rattle.refusal.specs.Line.{last_digit}
 use Rattle.refusal.proofs.line.digit.Goals as goal
 

@@ -5,7 +5,6 @@ use lib.ListN.{length}
 use Rattle.text.specs.Quoted.{bytes}
 use Rattle.refusal.proofs.Numerals.{few_of_64}
 use Rattle.refusal.proofs.Starts.{line_made, line_none, line_written}
-use borrow.Author.Rules.{rules}
 use Rattle.refusal.proofs.line.refused_line.Goals as goal
 
 pub add_number-b-requires : goal.add_number-b-requires
@@ -49,4 +48,3 @@ returns-clause-bytes c =
     line_made c.args.number c.args.line c.add_word-a.ensures.end c.add_word-a.ensures.bytes c.add_number-b.ensures.end c.add_number-b.ensures.bytes
     c.add_word-c.ensures.end c.add_word-c.ensures.bytes c.add_number-d.ensures.end c.add_number-d.ensures.bytes c.add_word.ensures.end c.add_word.ensures.bytes in
     line_written c.args.number c.args.line c.args.text.now room made).1
-

@@ -1,5 +1,5 @@
 -- `alike` makes the definition's tests in their order. Assumes nothing.
-use Rattle.std.proofs.Common.{◌≡◌, ℕ, ◌≤◌, eqb, List, get_or, sym, ap, ◌∙◌, arith, rules}
+use Rattle.std.proofs.Common.{◌≡◌, ℕ, ◌≤◌, eqb, List, get_or, sym, ap, ◌∙◌, arith}
 use Rattle.sine.specs.Phase.{field_of}
 use Rattle.sine.specs.Lanes.{having, alike}
 use Rattle.sine.proofs.LaneLaws.{alike_low, alike_high, alike_else}

@@ -1,7 +1,6 @@
 -- `each_lane` takes one sine after the other. Assumes nothing.
-use Rattle.std.proofs.Common.{◌-◌, ◌≤◌, length, arith, rules}
-use lib.Ieee.{nan}
-use Rattle.sine.specs.Lanes.{LanesOf, turn_sine_at}
+use Rattle.std.proofs.Common.{arith}
+use Rattle.sine.specs.Lanes.{turn_sine_at}
 use Rattle.sine.proofs.LaneLaws.{lanes_none, lanes_more, lanes_to}
 use Rattle.sine.proofs.lanes.each_lane.Goals as goal
 

@@ -1,8 +1,7 @@
 -- `each_lane` takes one sine after the other. Assumes nothing.
-use Rattle.std.proofs.Common.{◌-◌, ◌≤◌, length, arith, rules}
+use Rattle.std.proofs.Common.{◌-◌, ◌≤◌, length}
 use lib.Ieee.{nan}
 use Rattle.sine.specs.Lanes.{LanesOf, turn_sine_at}
-use Rattle.sine.proofs.LaneLaws.{lanes_none, lanes_more, lanes_to}
 use Rattle.sine.proofs.lanes.each_lane.Given as goal
 
 abbrev pub invariant-loop-j : goal.invariant-loop-j

@@ -1,6 +1,6 @@
 -- `folds_lanes` folds one position after the other. Assumes nothing.
-use Rattle.std.proofs.Common.{◌-◌, ◌≤◌, arith, rules}
-use Rattle.sine.specs.Lanes.{LanesOf, fold_at}
+use Rattle.std.proofs.Common.{arith}
+use Rattle.sine.specs.Lanes.{fold_at}
 use Rattle.sine.proofs.LaneLaws.{lanes_none, lanes_more, lanes_to}
 use Rattle.sine.proofs.lanes.folds_lanes.Goals as goal
 

@@ -1,7 +1,6 @@
 -- `folds_lanes` folds one position after the other. Assumes nothing.
-use Rattle.std.proofs.Common.{◌-◌, ◌≤◌, arith, rules}
+use Rattle.std.proofs.Common.{◌-◌, ◌≤◌}
 use Rattle.sine.specs.Lanes.{LanesOf, fold_at}
-use Rattle.sine.proofs.LaneLaws.{lanes_none, lanes_more, lanes_to}
 use Rattle.sine.proofs.lanes.folds_lanes.Given as goal
 
 abbrev pub invariant-loop-j : goal.invariant-loop-j

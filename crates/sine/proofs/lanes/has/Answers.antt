@@ -1,5 +1,5 @@
 -- `has` makes the definition's test. Assumes nothing.
-use Rattle.std.proofs.Common.{sym, ◌∙◌, rules}
+use Rattle.std.proofs.Common.{sym, ◌∙◌}
 use Rattle.sine.proofs.LaneLaws.{has_field_law, has_no_field}
 use Rattle.sine.proofs.lanes.has.Goals as goal
 

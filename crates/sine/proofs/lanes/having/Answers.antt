@@ -1,5 +1,5 @@
 -- `having` counts as the definition does, from the first lane on. Assumes nothing.
-use Rattle.std.proofs.Common.{◌≡◌, ℕ, ◌+◌, ◌-◌, ◌≤◌, List, sym, ap, ◌∙◌, ap₂, arith, rules}
+use Rattle.std.proofs.Common.{◌≡◌, ℕ, ◌+◌, ◌≤◌, List, sym, ap, ◌∙◌, ap₂, arith}
 use Rattle.sine.specs.Lanes.{has_field, having}
 use Rattle.sine.proofs.LaneLaws.{having_none, having_more, having_le, has_le}
 use Rattle.sine.proofs.lanes.having.Goals as goal

@@ -1,6 +1,6 @@
 -- `heights_lanes` puts one height after the other into its fold's place. Assumes nothing.
-use Rattle.std.proofs.Common.{ℕ, ◌-◌, ◌^◌, ◌≤◌, sym, subst, le_refl, arith, rules}
-use Rattle.sine.specs.Lanes.{LanesOf, height_at}
+use Rattle.std.proofs.Common.{ℕ, ◌^◌, ◌≤◌, sym, subst, le_refl, arith}
+use Rattle.sine.specs.Lanes.{height_at}
 use Rattle.sine.proofs.LaneLaws.{lanes_none, lanes_more, lanes_to}
 use Rattle.sine.proofs.lanes.heights_lanes.Goals as goal
 

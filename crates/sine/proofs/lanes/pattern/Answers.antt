@@ -13,11 +13,11 @@ none x e = sym (pattern_nan x (ap is_nan (differs_from_itself x (subst T (sym e)
 
 pub returns-then-x : goal.returns-then-x
 returns-then-x c =
-    record {bits = none c.args.x c.if-x.true; fits = (let it : T (fits binary32 c.args.x) = subst T (sym c.well_formed.0.1) tt in it);}
+    record { bits = none c.args.x c.if-x.true; fits = (let it : T (fits binary32 c.args.x) = subst T (sym c.well_formed.0.1) tt in it) }
 
 pub float_to_bits-result : goal.float_to_bits-result
 float_to_bits-result c = no_nan c.args.x c.if-x.false
 
 pub returns : goal.returns
 returns c =
-    record {bits = sym (pattern_bits c.args.x (no_nan c.args.x c.if-x.false)); fits = (let it : T (fits binary32 c.args.x) = subst T (sym c.well_formed.0.1) tt in it);}
+    record { bits = sym (pattern_bits c.args.x (no_nan c.args.x c.if-x.false)); fits = (let it : T (fits binary32 c.args.x) = subst T (sym c.well_formed.0.1) tt in it) }

@@ -1,6 +1,6 @@
 -- `patterns` gives one lane after the other its bits. Assumes nothing.
-use Rattle.std.proofs.Common.{◌≡◌, ℕ, ◌-◌, ◌≤◌, length, subst, arith, rules}
-use Rattle.sine.specs.Lanes.{LanesOf, FloatsFit, pattern_at}
+use Rattle.std.proofs.Common.{◌≡◌, ℕ, length, subst, arith}
+use Rattle.sine.specs.Lanes.{FloatsFit, pattern_at}
 use Rattle.sine.proofs.LaneLaws.{for_more, lanes_none, lanes_more, lanes_to}
 use Rattle.sine.proofs.lanes.patterns.Goals as goal
 
@@ -20,4 +20,4 @@ returns c =
     let a = c.args in
     let l = c.loop-j in
     let e : l.j ≡ length a.values.now = omega (arith, l.invariant.0, c.loop-j-test.false) in
-    record {bits = lanes_to (pattern_at a.values.now) l.j _ a.bits.now l.bits e l.invariant.1; fits = subst (λ (k : ℕ). FloatsFit k a.values.now) e l.invariant.2;}
+    record { bits = lanes_to (pattern_at a.values.now) l.j _ a.bits.now l.bits e l.invariant.1; fits = subst (λ (k : ℕ). FloatsFit k a.values.now) e l.invariant.2 }

@@ -1,7 +1,6 @@
 -- `patterns` gives one lane after the other its bits. Assumes nothing.
-use Rattle.std.proofs.Common.{◌≡◌, ℕ, ◌-◌, ◌≤◌, length, subst, arith, rules}
+use Rattle.std.proofs.Common.{◌-◌, ◌≤◌, length}
 use Rattle.sine.specs.Lanes.{LanesOf, FloatsFit, pattern_at}
-use Rattle.sine.proofs.LaneLaws.{for_more, lanes_none, lanes_more, lanes_to}
 use Rattle.sine.proofs.lanes.patterns.Given as goal
 
 abbrev pub invariant-loop-j : goal.invariant-loop-j

@@ -1,5 +1,5 @@
 -- `position_down` is the quotient of the law `position_narrow`, worked out by `phase`. Assumes nothing.
-use Rattle.std.proofs.Common.{◌∙◌, rules}
+use Rattle.std.proofs.Common.{◌∙◌}
 use Rattle.sine.proofs.LaneLaws.{position_narrow}
 use Rattle.sine.specs.Phase.{position_of}
 use Rattle.sine.specs.Turn.{C}

@@ -1,6 +1,6 @@
 -- `positions_lanes` gives one lane after the other its position. Assumes nothing.
-use Rattle.std.proofs.Common.{◌-◌, ◌≤◌, arith, rules}
-use Rattle.sine.specs.Lanes.{LanesOf, position_at}
+use Rattle.std.proofs.Common.{arith}
+use Rattle.sine.specs.Lanes.{position_at}
 use Rattle.sine.proofs.LaneLaws.{lanes_none, lanes_more, lanes_to}
 use Rattle.sine.proofs.lanes.positions_lanes.Goals as goal
 

@@ -1,7 +1,6 @@
 -- `positions_lanes` gives one lane after the other its position. Assumes nothing.
-use Rattle.std.proofs.Common.{◌-◌, ◌≤◌, arith, rules}
+use Rattle.std.proofs.Common.{◌-◌, ◌≤◌}
 use Rattle.sine.specs.Lanes.{LanesOf, position_at}
-use Rattle.sine.proofs.LaneLaws.{lanes_none, lanes_more, lanes_to}
 use Rattle.sine.proofs.lanes.positions_lanes.Given as goal
 
 abbrev pub invariant-loop-j : goal.invariant-loop-j

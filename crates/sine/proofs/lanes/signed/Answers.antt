@@ -1,7 +1,6 @@
 -- `signed` is the last product of `sine_by`. Assumes nothing.
 use Rattle.sine.specs.Lanes.{signed_of}
 use Rattle.sine.proofs.Floats.{unit_times}
-use Rattle.std.proofs.Common.{rules}
 use Rattle.sine.proofs.lanes.signed.Goals as goal
 
 pub returns : goal.returns

@@ -1,7 +1,6 @@
 -- `signed_lanes` gives one lane after the other its sine. Assumes nothing.
-use Rattle.std.proofs.Common.{◌-◌, ◌≤◌, length, arith, rules}
-use lib.Ieee.{nan}
-use Rattle.sine.specs.Lanes.{LanesOf, signed_of, signed_at}
+use Rattle.std.proofs.Common.{arith}
+use Rattle.sine.specs.Lanes.{signed_at}
 use Rattle.sine.proofs.LaneLaws.{lanes_none, lanes_more, lanes_to}
 use Rattle.sine.proofs.lanes.signed_lanes.Goals as goal
 

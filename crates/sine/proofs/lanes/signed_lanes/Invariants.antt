@@ -1,8 +1,7 @@
 -- `signed_lanes` gives one lane after the other its sine. Assumes nothing.
-use Rattle.std.proofs.Common.{◌-◌, ◌≤◌, length, arith, rules}
+use Rattle.std.proofs.Common.{◌-◌, ◌≤◌, length}
 use lib.Ieee.{nan}
-use Rattle.sine.specs.Lanes.{LanesOf, signed_of, signed_at}
-use Rattle.sine.proofs.LaneLaws.{lanes_none, lanes_more, lanes_to}
+use Rattle.sine.specs.Lanes.{LanesOf, signed_at}
 use Rattle.sine.proofs.lanes.signed_lanes.Given as goal
 
 abbrev pub invariant-loop-j : goal.invariant-loop-j

@@ -1,5 +1,5 @@
 -- `sines_alike` takes the steps of the sine one after the other, each in all lanes. Assumes nothing.
-use Rattle.std.proofs.Common.{ℕ, ◌-◌, ◌≤◌, length, sym, refl, subst, arith, rules}
+use Rattle.std.proofs.Common.{ℕ, ◌-◌, ◌≤◌, length, sym, refl, subst}
 use Rattle.sine.specs.Lanes.{FieldsAre}
 use Rattle.sine.proofs.LaneLaws.{alike_fields, folds_end, sines_lanes}
 use Rattle.sine.proofs.lanes.sines_alike.Goals as goal

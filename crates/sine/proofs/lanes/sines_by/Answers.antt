@@ -1,5 +1,5 @@
 -- `sines_by` goes lane by lane, or where all patterns are alike step by step: all lanes done are the list mapped. Assumes nothing.
-use Rattle.std.proofs.Common.{sym, ◌∙◌, rules}
+use Rattle.std.proofs.Common.{sym, ◌∙◌}
 use Rattle.sine.specs.Lanes.{pattern_at}
 use Rattle.sine.proofs.LaneLaws.{sines_mapped}
 use Rattle.sine.proofs.lanes.sines_by.Goals as goal

@@ -1,5 +1,5 @@
 -- `fold` is the definition's two cases, which its test takes in turn. Assumes nothing.
-use Rattle.std.proofs.Common.{sym, rules}
+use Rattle.std.proofs.Common.{sym}
 use Rattle.sine.proofs.Heights.{folded_back, folded_on}
 use Rattle.sine.proofs.turn.fold.Goals as goal
 

@@ -1,5 +1,5 @@
 -- `height_by` reads the table in place: the definition's two cases, which its test takes in turn. Assumes nothing.
-use Rattle.std.proofs.Common.{sym, ◌∙◌, rules}
+use Rattle.std.proofs.Common.{sym, ◌∙◌}
 use Rattle.sine.proofs.Heights.{height_last, height_between}
 use Rattle.sine.proofs.turn.height_by.Goals as goal
 

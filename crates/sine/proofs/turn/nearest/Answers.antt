@@ -1,5 +1,5 @@
 -- `nearest` converts where an `f32` counts without a gap, and hands the rest on. Assumes nothing.
-use Rattle.std.proofs.Common.{◌^◌, le→leb, rules}
+use Rattle.std.proofs.Common.{◌^◌, le→leb}
 use lib.Ieee.{in_float}
 use Rattle.sine.proofs.turn.nearest.Goals as goal
 

@@ -1,6 +1,6 @@
 -- `partway` on the way up stays below the upper entry, and so does all that it works out. On a way down the definition's
 -- difference is 0. Assumes nothing.
-use Rattle.std.proofs.Common.{arith, rules}
+use Rattle.std.proofs.Common.{arith}
 use Rattle.sine.proofs.Heights.{Step, step, stays}
 use Rattle.sine.proofs.turn.partway.Goals as goal
 

@@ -1,5 +1,5 @@
 -- `phase` adds two limbs: the law `limbs` says what their sum is, and `wrapping_add_u32` wraps it. Assumes nothing.
-use Rattle.std.proofs.Common.{◌-◌, ◌*◌, ◌/◌, ◌%◌, ◌^◌, ◌∙◌, arith, pow_pos, rules}
+use Rattle.std.proofs.Common.{◌-◌, ◌*◌, ◌/◌, ◌%◌, ◌^◌, ◌∙◌, arith, pow_pos}
 use lib.Bits.{and_le_l}
 use Rattle.sine.specs.Turn.{C}
 use Rattle.sine.proofs.Limbs.{one_shifted, limbs}

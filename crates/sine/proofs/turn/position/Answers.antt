@@ -1,6 +1,6 @@
 -- `position` is the quotient of the law `position_some`, worked out by `phase`, or 0 where the law `position_none` has it.
 -- Assumes nothing.
-use Rattle.std.proofs.Common.{◌≡◌, ℕ, ◌+◌, ◌-◌, ◌*◌, ◌/◌, ◌%◌, ◌^◌, sym, ap, ◌∙◌, arith, rules}
+use Rattle.std.proofs.Common.{◌≡◌, ℕ, ◌+◌, ◌-◌, ◌*◌, ◌/◌, ◌%◌, ◌^◌, sym, ap, ◌∙◌, arith}
 use Rattle.sine.specs.Turn.{C}
 use Rattle.sine.specs.Phase.{field_of}
 use Rattle.sine.proofs.Phase.{position_none, position_some}

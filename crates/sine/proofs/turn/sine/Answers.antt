@@ -1,5 +1,4 @@
 -- `sine` lends the table that it makes. Assumes nothing.
-use Rattle.std.proofs.Common.{rules}
 use Rattle.sine.proofs.turn.sine.Goals as goal
 
 pub returns : goal.returns

@@ -1,6 +1,6 @@
 -- `sine_by` puts the parts together: the bits read back as x, the laws `bits_under` and `bits_over` say what its sine is, and
 -- the last product is `sine_at`. Assumes nothing.
-use Rattle.std.proofs.Common.{◌≡◌, ℕ, ◌^◌, ◌<◌, true, T, leb, List, pos, negsuc, sym, ◌∙◌, subst, arith, rules}
+use Rattle.std.proofs.Common.{◌≡◌, ℕ, ◌^◌, ◌<◌, true, T, leb, List, pos, negsuc, sym, subst, arith}
 use lib.Ieee.{Float, fin, binary32, unlike, fits, ne, mul, of_int, to_bits, of_bits}
 use lib.Ieee.Bits.{of_bits-to_bits}
 use lib.Ieee.Compare.{differs_from_itself}

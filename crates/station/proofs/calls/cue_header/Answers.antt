@@ -43,4 +43,3 @@ returns-clause-bytes c =
     let w = c.header_of-answer.ensures in
     let t = w.answer ∙ ap (λ (m : Mode). told (header_asked m a.source.now (length a.buffer.now))) e in
     w.bytes ∙ ap₂ (λ (m : Mode) (z : Size). header_written m z a.source.now a.buffer.now) e z
-

@@ -23,4 +23,3 @@ returns-clause-line c =
     let a = c.args in
     let t = c.samples_of-answer.ensures ∙ ap (λ (m : Mode). told (samples_asked m a.source.now)) c.mode_of.ensures in
     ap (λ (t : Told). t.line) t
-

@@ -38,4 +38,3 @@ returns-clause-bytes c =
     let w = c.window_of-answer.ensures in
     let t = w.answer ∙ ap (λ (m : Mode). told (window_asked m a.source.now a.start (length a.buffer.now) a.place)) e in
     w.bytes ∙ ap (λ (m : Mode). window_written m a.source.now a.start a.buffer.now a.place) e
-

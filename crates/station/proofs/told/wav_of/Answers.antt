@@ -20,7 +20,7 @@ returns-then-text-ne0 c =
     let a = c.args in
     let q = c.read-text in
     let e = text_refused a.mode a.source.now q.result q.ensures c.if-text-ne0.true in
-    record {answer = c.turned_away.ensures ∙ sym (wav_told_refused a.mode a.source.now _ _ e (length a.buffer.now)); bytes = sym (wav_kept a.mode a.source.now _ _ e a.riff a.buffer.now);}
+    record { answer = c.turned_away.ensures ∙ sym (wav_told_refused a.mode a.source.now _ _ e (length a.buffer.now)); bytes = sym (wav_kept a.mode a.source.now _ _ e a.riff a.buffer.now) }
 
 pub overflow_mul-size : goal.overflow_mul-size
 overflow_mul-size c = record { fits = omega (arith, (let it : c.check.result.length ≤ 2000000000 = subst (λ (n : ℕ). n ≤ 2000000000) (sym ((let it : c.check.result.length ≡ length_of 44100 c.read-text.result.sheet = checked_length 44100 c.read-text.result.sheet c.check.result c.check.ensures (sheet_passes _ _ _ ((let it : sheet_in c.args.mode c.args.source.now ≡ going c.read-text.result.sheet = text_going c.args.mode c.args.source.now c.read-text.result c.read-text.ensures c.if-text-ne0.false in it))) in it))) (passing 44100 _ (sheet_passes _ _ _ ((let it : sheet_in c.args.mode c.args.source.now ≡ going c.read-text.result.sheet = text_going c.args.mode c.args.source.now c.read-text.result c.read-text.ensures c.if-text-ne0.false in it)))).length in it)) }
@@ -33,7 +33,7 @@ returns-then-buffer-size c =
     let a = c.args in
     let e = (let it : sheet_in c.args.mode c.args.source.now ≡ going c.read-text.result.sheet = text_going c.args.mode c.args.source.now c.read-text.result c.read-text.ensures c.if-text-ne0.false in it) in
     let n = (let it : c.check.result.length ≡ length_of 44100 c.read-text.result.sheet = checked_length 44100 c.read-text.result.sheet c.check.result c.check.ensures (sheet_passes _ _ _ ((let it : sheet_in c.args.mode c.args.source.now ≡ going c.read-text.result.sheet = text_going c.args.mode c.args.source.now c.read-text.result c.read-text.ensures c.if-text-ne0.false in it))) in it) in
-    let short : length a.buffer.now < 44 + 2 * length_of 44100 c.read-text.result.sheet = subst (λ (k : ℕ). length a.buffer.now < 44 + 2 * k) n c.if-buffer-size.true in record {answer = ap (λ (k : ℕ). record { count = 44 + 2 * k; refusal = 30; line = 0 }) n ∙ sym (wav_told_short a.mode a.source.now _ e (length a.buffer.now) short); bytes = sym (wav_short_kept a.mode a.source.now _ e a.riff a.buffer.now short);}
+    let short : length a.buffer.now < 44 + 2 * length_of 44100 c.read-text.result.sheet = subst (λ (k : ℕ). length a.buffer.now < 44 + 2 * k) n c.if-buffer-size.true in record { answer = ap (λ (k : ℕ). record { count = 44 + 2 * k; refusal = 30; line = 0 }) n ∙ sym (wav_told_short a.mode a.source.now _ e (length a.buffer.now) short); bytes = sym (wav_short_kept a.mode a.source.now _ e a.riff a.buffer.now short) }
 
 pub returns : goal.returns
 returns c =
@@ -41,6 +41,9 @@ returns c =
     let s = c.read-text.result.sheet in
     let e = (let it : sheet_in c.args.mode c.args.source.now ≡ going c.read-text.result.sheet = text_going c.args.mode c.args.source.now c.read-text.result c.read-text.ensures c.if-text-ne0.false in it) in
     let n = (let it : c.check.result.length ≡ length_of 44100 c.read-text.result.sheet = checked_length 44100 c.read-text.result.sheet c.check.result c.check.ensures (sheet_passes _ _ _ ((let it : sheet_in c.args.mode c.args.source.now ≡ going c.read-text.result.sheet = text_going c.args.mode c.args.source.now c.read-text.result c.read-text.ensures c.if-text-ne0.false in it))) in it) in
-    let room : 44 + 2 * length_of 44100 s ≤ length a.buffer.now = subst (λ (m : ℕ). 44 + 2 * m ≤ length a.buffer.now) n c.if-buffer-size.false in record {answer = c.so_many.ensures ∙ ap (λ (m : ℕ). told (going (44 + 2 * m))) n ∙ sym (wav_told_room a.mode a.source.now s e (length a.buffer.now) room); bytes = c.write_window.ensures.bytes
+    let room : 44 + 2 * length_of 44100 s ≤ length a.buffer.now = subst (λ (m : ℕ). 44 + 2 * m ≤ length a.buffer.now) n c.if-buffer-size.false in record {
+      answer = c.so_many.ensures ∙ ap (λ (m : ℕ). told (going (44 + 2 * m))) n ∙ sym (wav_told_room a.mode a.source.now s e (length a.buffer.now) room);
+      bytes = c.write_window.ensures.bytes
           ∙ ap (λ (t : List ℕ). written_in 44100 s 0 t 44) c.write_header.ensures.bytes
-          ∙ wav_pieces a.mode a.source.now s e a.riff a.buffer.now room;}
+          ∙ wav_pieces a.mode a.source.now s e a.riff a.buffer.now room;
+    }

@@ -78,4 +78,3 @@ pub returns-clause-names : goal.returns-clause-names
 returns-clause-names c =
     (header_new c.args.source.now c.args.from c.args.end c.args.count c.args.names.now c.if-count-gt32.false c.if-names-ne64.false c.least-to.result c.least-begin.result c.least-to.ensures c.least-begin.ensures
     (sym c.is_taken.ensures ∙ c.if-is_taken.false) c.if-count-ge31.false _ c.put_entry.ensures).1
-

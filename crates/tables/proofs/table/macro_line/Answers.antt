@@ -189,4 +189,3 @@ returns-clause-bodies c =
     c.least-to.result c.least-begin.result c.least-to.ensures c.least-begin.ensures c.name_at-place.result c.name_at-place.ensures
     c.if-not-two.false (sym c.is_taken.ensures ∙ c.if-is_taken.false)
     c.if-count-ge64.false _ _ c.put_entry.ensures c.put_entry-2.ensures).1.1
-

@@ -1,12 +1,9 @@
 -- `ink_end` keeps a `Walk` over the ink: a byte that is no blank. Assumes nothing.
 use mathlib.Core.Path.{◌≡◌, sym, ap, ◌∙◌}
 use mathlib.Core.Bool.{Bool, not}
-use Prim.Native.Nat.{ℕ, ◌-◌}
-use native.Mathlib.Omega.{arith}
-use borrow.Author.Rules.{rules}
-use lib.ListN.{length}
+use Prim.Native.Nat.{ℕ}
 use Rattle.text.specs.Blanks.{is_blank, is_ink}
-use Rattle.text.proofs.Walks.{Walk, walk_start, walk_more, walk_stop, walk_end}
+use Rattle.text.proofs.Walks.{walk_start, walk_more, walk_stop, walk_end}
 use Rattle.text.proofs.blanks.ink_end.Goals as goal
 
 -- what the test of a blank says of ink

@@ -1,11 +1,8 @@
 -- `same_text` keeps that what is left to compare says what the whole says. Assumes nothing.
-use mathlib.Core.Path.{◌≡◌, refl, sym, ◌∙◌}
+use mathlib.Core.Path.{◌≡◌}
 use Prim.Native.Nat.{◌-◌}
-use native.Mathlib.Omega.{arith}
-use borrow.Author.Rules.{rules}
 use lib.ListN.{length, drop}
 use Rattle.text.specs.Characters.{same}
-use Rattle.text.proofs.Sames.{same_lengths, same_more, same_apart, same_end}
 use Rattle.text.proofs.characters.same_text.Given as goal
 
 abbrev pub invariant-loop-at : goal.invariant-loop-at

@@ -1,6 +1,5 @@
 -- `stands_at` asks for the place first, and then for the byte. Assumes nothing.
 use mathlib.Core.Path.{sym}
-use borrow.Author.Rules.{rules}
 use Rattle.text.proofs.Starts.{starts_end, starts_at}
 use Rattle.text.proofs.characters.stands_at.Goals as goal
 

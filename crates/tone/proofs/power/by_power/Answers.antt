@@ -1,6 +1,5 @@
 -- `by_power` goes by the sign of the exponent: each branch is one law of the definition, and the constant's bits are those of its step.
 -- Assumes nothing.
-use Rattle.std.proofs.Common.{rules}
 use lib.Ieee.{of_bits, round}
 use Rattle.tone.specs.Power.{step}
 use Rattle.tone.proofs.Powers.{frequency_below, frequency_from}

@@ -1,5 +1,5 @@
 -- `frequency` looks a semitone up in the table where it is one of the hundred there, and goes by the power rule below and above them. Assumes nothing.
-use Rattle.std.proofs.Common.{◌≡◌, ℕ, ◌+◌, ◌-◌, ◌≤◌, arith, rules}
+use Rattle.std.proofs.Common.{◌≡◌, ℕ, ◌+◌, ◌-◌, ◌≤◌, arith}
 use Rattle.tone.proofs.Lookup.{looked_up}
 use Rattle.tone.proofs.power.frequency.Goals as goal
 

@@ -1,9 +1,7 @@
 -- `power` keeps the value that the definition still has to make of what is left of the exponent: one turn takes its lowest digit.
 -- Assumes nothing.
-use Rattle.std.proofs.Common.{◌≡◌, ◌^◌, ◌<◌, true, false, sym, refl, ◌∙◌, ⊎_elim, arith, eq-eqb, ne_eqb}
-use lib.Ieee.{of_bits}
+use Rattle.std.proofs.Common.{◌≡◌, ◌^◌, ◌<◌}
 use Rattle.tone.specs.Power.{bits, power_from, power_of}
-use Rattle.tone.proofs.Powers.{ended, taken}
 use Rattle.tone.proofs.power.power.Given as goal
 
 abbrev pub invariant-loop-left : goal.invariant-loop-left

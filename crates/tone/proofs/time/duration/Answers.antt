@@ -1,6 +1,5 @@
 -- `duration` is its definition, operation by operation: each cast is the f32 nearest to its number, and the two returns are its two cases.
 -- Assumes nothing.
-use Rattle.std.proofs.Common.{rules}
 use lib.Ieee.{of_bits}
 use Rattle.tone.specs.Time.{duration_of}
 use Rattle.tone.proofs.time.duration.Goals as goal

@@ -1,6 +1,5 @@
 -- `sec_to_len` is its definition: the rate's cast is the f32 nearest to it, and `count` counts the product.
 -- Assumes nothing.
-use Rattle.std.proofs.Common.{rules}
 use Rattle.tone.specs.Time.{length_of}
 use Rattle.tone.proofs.time.sec_to_len.Goals as goal
 

@@ -18,12 +18,11 @@ pub bounds-part-i-in-loop-i : goal.bounds-part-i-in-loop-i
 bounds-part-i-in-loop-i c = simp length-set (omega arith)
 
 pub loop-i-preserved : goal.loop-i-preserved
-loop-i-preserved c =
-    (
-      omega arith,
-      simp length-set c.loop-i.invariant.1,
-      rw c.loop-i.invariant.2 (one_more c.args.part.now c.args.samples.now c.loop-i.i c.sample-v.result _ (omega arith) (omega arith) (omega (arith, c.sample-v.type_inv)) c.sample-v.ensures),
-    )
+loop-i-preserved c = (
+  omega arith,
+  simp length-set c.loop-i.invariant.1,
+  rw c.loop-i.invariant.2 (one_more c.args.part.now c.args.samples.now c.loop-i.i c.sample-v.result _ (omega arith) (omega arith) (omega (arith, c.sample-v.type_inv)) c.sample-v.ensures),
+)
 
 pub shape_of-part : goal.shape_of-part
 shape_of-part c = c.loop-i.invariant.1

@@ -12,12 +12,11 @@ pub loop-i-init : goal.loop-i-init
 loop-i-init c = (omega arith, refl, sym (put_none _ 0))
 
 pub loop-i-preserved : goal.loop-i-preserved
-loop-i-preserved c =
-    (
-      omega arith,
-      simp length-set c.loop-i.invariant.1,
-      rw c.loop-i.invariant.2 (one_byte_more c.args.buffer.now c.args.bytes.now c.loop-i.i 0 (omega arith) (omega arith)),
-    )
+loop-i-preserved c = (
+  omega arith,
+  simp length-set c.loop-i.invariant.1,
+  rw c.loop-i.invariant.2 (one_byte_more c.args.buffer.now c.args.bytes.now c.loop-i.i 0 (omega arith) (omega arith)),
+)
 
 pub shape_of-buffer : goal.shape_of-buffer
 shape_of-buffer c = c.loop-i.invariant.1

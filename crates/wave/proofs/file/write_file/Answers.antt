@@ -26,13 +26,13 @@ count_field n h = omega arith
 pub returns-then-n-gt2000000000 : goal.returns-then-n-gt2000000000
 unfolding told file_told file_in
 returns-then-n-gt2000000000 c =
-    record {answer = rw (lt-leb _ _ c.if-n-gt2000000000.true, file_told); bytes = rw (lt-leb _ _ c.if-n-gt2000000000.true, file_in);}
+    record { answer = rw (lt-leb _ _ c.if-n-gt2000000000.true, file_told); bytes = rw (lt-leb _ _ c.if-n-gt2000000000.true, file_in) }
 
 pub returns-then-buffer-n : goal.returns-then-buffer-n
 unfolding told file_told file_in
 returns-then-buffer-n c =
     let few = c.if-n-gt2000000000.false in
-    record {answer = rw (le-leb _ _ few, lt-leb _ _ c.if-buffer-n.true, file_told); bytes = rw (le-leb _ _ few, lt-leb _ _ c.if-buffer-n.true, file_in);}
+    record { answer = rw (le-leb _ _ few, lt-leb _ _ c.if-buffer-n.true, file_told); bytes = rw (le-leb _ _ few, lt-leb _ _ c.if-buffer-n.true, file_in) }
 
 pub overflow_cast-n : goal.overflow_cast-n
 overflow_cast-n c = count_field _ c.if-n-gt2000000000.false
@@ -48,7 +48,10 @@ unfolding told file_told file_in
 returns c =
     let room = c.if-buffer-n.false in
     let few = c.if-n-gt2000000000.false in
-    record {answer = rw (le-leb _ _ few, le-leb _ _ room, file_told); bytes = rw (le-leb _ _ few, le-leb _ _ room, file_in)
+    record {
+      answer = rw (le-leb _ _ few, le-leb _ _ room, file_told);
+      bytes = rw (le-leb _ _ few, le-leb _ _ room, file_in)
           (c.write_samples.ensures.bytes
           ∙ ap (λ (b : List ℕ). samples_in b 44 c.args.samples.now) c.write_header.ensures.bytes
-          ∙ file_put c.args.size c.args.rate c.args.samples.now c.args.buffer.now room);}
+          ∙ file_put c.args.size c.args.rate c.args.samples.now c.args.buffer.now room);
+    }

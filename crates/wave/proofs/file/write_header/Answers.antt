@@ -9,12 +9,15 @@ use Rattle.wave.proofs.file.write_header.Goals as goal
 pub returns-then-buffer-lt44 : goal.returns-then-buffer-lt44
 unfolding told header_told header_in
 returns-then-buffer-lt44 c =
-    record {answer = rw (lt-leb _ _ c.if-buffer-lt44.true, header_told); bytes = rw (lt-leb _ _ c.if-buffer-lt44.true, header_in);}
+    record { answer = rw (lt-leb _ _ c.if-buffer-lt44.true, header_told); bytes = rw (lt-leb _ _ c.if-buffer-lt44.true, header_in) }
 
 pub returns : goal.returns
 unfolding told header_told
 returns c =
     let room = c.if-buffer-lt44.false in
-    record {answer = rw (le-leb _ _ room, header_told); bytes = c.store.ensures
+    record {
+      answer = rw (le-leb _ _ room, header_told);
+      bytes = c.store.ensures
           ∙ ap (put c.args.buffer.now 0) c.header-bytes.ensures
-          ∙ sym (header_put c.args.size c.args.rate c.args.n c.args.buffer.now room);}
+          ∙ sym (header_put c.args.size c.args.rate c.args.n c.args.buffer.now room);
+    }

@@ -14,12 +14,15 @@ pub returns-then-at-buffer : goal.returns-then-at-buffer
 unfolding count_in samples_in
 returns-then-at-buffer c =
     let z : min (length c.args.samples.now) ((length c.args.buffer.now - c.args.at) / 2) ≡ 0 = omega arith in
-    record {count = sym z; bytes = rw z (sym (put_none c.args.buffer.now c.args.at));}
+    record { count = sym z; bytes = rw z (sym (put_none c.args.buffer.now c.args.at)) }
 
 pub returns : goal.returns
 unfolding count_in samples_in
 returns c =
     let b = c.args.buffer.now in
-    let xs = c.args.samples.now in record {count = c.fitting-n.ensures; bytes = rw c.fill.ensures
+    let xs = c.args.samples.now in record {
+      count = c.fitting-n.ensures;
+      bytes = rw c.fill.ensures
           (put_lent b c.args.at (bytes_of (take c.fitting-n.result xs))
-          ∙ ap (λ (n : ℕ). put b c.args.at (bytes_of (take n xs))) c.fitting-n.ensures);}
+          ∙ ap (λ (n : ℕ). put b c.args.at (bytes_of (take n xs))) c.fitting-n.ensures);
+    }

@@ -39,7 +39,7 @@ returns-then-not-checked c =
     let k = c.check-checked in
     let e : is_sheet a.rate a.sheet ≡ false = sym (checked_passes a.rate a.sheet k.result k.ensures) ∙ (not-true _ c.if-not-checked.true) in
     let w = written_28 a.rate a.sheet a.buffer.now a.start a.at e in
-    record {answer = sym w; bytes = sym (written_refused a.rate a.sheet a.buffer.now a.start a.at 28 0 w);}
+    record { answer = sym w; bytes = sym (written_refused a.rate a.sheet a.buffer.now a.start a.at 28 0 w) }
 
 pub returns-then-start-samples : goal.returns-then-start-samples
 unfolding answered
@@ -47,14 +47,14 @@ returns-then-start-samples c =
     let a = c.args in
     let l : length_of a.rate a.sheet < a.start = subst (λ (n : ℕ). n < a.start) ((let it : let a = c.args in c.check-checked.result.length ≡ length_of a.rate a.sheet = let a = c.args in let k = c.check-checked in checked_length a.rate a.sheet k.result k.ensures ((let it : let a = c.args in is_sheet a.rate a.sheet ≡ true = let a = c.args in let k = c.check-checked in sym (checked_passes a.rate a.sheet k.result k.ensures) ∙ (not-false _ c.if-not-checked.false) in it)) in it)) c.if-start-samples.true in
     let w = written_29 a.rate a.sheet a.buffer.now a.start a.at ((let it : let a = c.args in is_sheet a.rate a.sheet ≡ true = let a = c.args in let k = c.check-checked in sym (checked_passes a.rate a.sheet k.result k.ensures) ∙ (not-false _ c.if-not-checked.false) in it)) l in
-    record {answer = sym w; bytes = sym (written_refused a.rate a.sheet a.buffer.now a.start a.at 29 0 w);}
+    record { answer = sym w; bytes = sym (written_refused a.rate a.sheet a.buffer.now a.start a.at 29 0 w) }
 
 pub returns-then-at-buffer : goal.returns-then-at-buffer
 unfolding answered
 returns-then-at-buffer c =
     let a = c.args in
     let w = written_past a.rate a.sheet a.buffer.now a.start a.at ((let it : let a = c.args in is_sheet a.rate a.sheet ≡ true = let a = c.args in let k = c.check-checked in sym (checked_passes a.rate a.sheet k.result k.ensures) ∙ (not-false _ c.if-not-checked.false) in it)) ((let it : let a = c.args in a.start ≤ length_of a.rate a.sheet = let a = c.args in subst (λ (n : ℕ). a.start ≤ n) ((let it : let a = c.args in c.check-checked.result.length ≡ length_of a.rate a.sheet = let a = c.args in let k = c.check-checked in checked_length a.rate a.sheet k.result k.ensures ((let it : let a = c.args in is_sheet a.rate a.sheet ≡ true = let a = c.args in let k = c.check-checked in sym (checked_passes a.rate a.sheet k.result k.ensures) ∙ (not-false _ c.if-not-checked.false) in it)) in it)) c.if-start-samples.false in it)) c.if-at-buffer.true in
-    record {answer = sym w; bytes = sym (written_refused a.rate a.sheet a.buffer.now a.start a.at 30 0 w);}
+    record { answer = sym w; bytes = sym (written_refused a.rate a.sheet a.buffer.now a.start a.at 30 0 w) }
 
 pub returns-then-start-samples-2 : goal.returns-then-start-samples-2
 unfolding answered
@@ -63,7 +63,7 @@ returns-then-start-samples-2 c =
     let more : a.start < length_of a.rate a.sheet = subst (λ (n : ℕ). a.start < n) ((let it : let a = c.args in c.check-checked.result.length ≡ length_of a.rate a.sheet = let a = c.args in let k = c.check-checked in checked_length a.rate a.sheet k.result k.ensures ((let it : let a = c.args in is_sheet a.rate a.sheet ≡ true = let a = c.args in let k = c.check-checked in sym (checked_passes a.rate a.sheet k.result k.ensures) ∙ (not-false _ c.if-not-checked.false) in it)) in it)) c.if-start-samples-2.true in
     let w = written_short a.rate a.sheet a.buffer.now a.start a.at ((let it : let a = c.args in is_sheet a.rate a.sheet ≡ true = let a = c.args in let k = c.check-checked in sym (checked_passes a.rate a.sheet k.result k.ensures) ∙ (not-false _ c.if-not-checked.false) in it)) ((let it : let a = c.args in a.start ≤ length_of a.rate a.sheet = let a = c.args in subst (λ (n : ℕ). a.start ≤ n) ((let it : let a = c.args in c.check-checked.result.length ≡ length_of a.rate a.sheet = let a = c.args in let k = c.check-checked in checked_length a.rate a.sheet k.result k.ensures ((let it : let a = c.args in is_sheet a.rate a.sheet ≡ true = let a = c.args in let k = c.check-checked in sym (checked_passes a.rate a.sheet k.result k.ensures) ∙ (not-false _ c.if-not-checked.false) in it)) in it)) c.if-start-samples.false in it)) c.if-at-buffer.false more
     (short (length a.buffer.now - a.at) _ _ _ c.least-n.ensures c.if-n-eq0.true c.if-start-samples-2.true) in
-    record {answer = sym w; bytes = sym (written_refused a.rate a.sheet a.buffer.now a.start a.at 30 0 w);}
+    record { answer = sym w; bytes = sym (written_refused a.rate a.sheet a.buffer.now a.start a.at 30 0 w) }
 
 pub returns-then-n-eq0 : goal.returns-then-n-eq0
 unfolding answered room_at
@@ -73,7 +73,7 @@ returns-then-n-eq0 c =
     let w = written_none a.rate a.sheet a.buffer.now a.start a.at ((let it : let a = c.args in is_sheet a.rate a.sheet ≡ true = let a = c.args in let k = c.check-checked in sym (checked_passes a.rate a.sheet k.result k.ensures) ∙ (not-false _ c.if-not-checked.false) in it)) ((let it : let a = c.args in a.start ≤ length_of a.rate a.sheet = let a = c.args in subst (λ (n : ℕ). a.start ≤ n) ((let it : let a = c.args in c.check-checked.result.length ≡ length_of a.rate a.sheet = let a = c.args in let k = c.check-checked in checked_length a.rate a.sheet k.result k.ensures ((let it : let a = c.args in is_sheet a.rate a.sheet ≡ true = let a = c.args in let k = c.check-checked in sym (checked_passes a.rate a.sheet k.result k.ensures) ∙ (not-false _ c.if-not-checked.false) in it)) in it)) c.if-start-samples.false in it)) c.if-at-buffer.false none in
     let z = sym ((let it : let a = c.args in c.least-n.result ≡ min (room_at (length a.buffer.now) a.at) (length_of a.rate a.sheet - a.start) = let a = c.args in c.least-n.ensures ∙ ap (λ (n : ℕ). min ((length a.buffer.now - a.at) / 2) (n - a.start)) ((let it : let a = c.args in c.check-checked.result.length ≡ length_of a.rate a.sheet = let a = c.args in let k = c.check-checked in checked_length a.rate a.sheet k.result k.ensures ((let it : let a = c.args in is_sheet a.rate a.sheet ≡ true = let a = c.args in let k = c.check-checked in sym (checked_passes a.rate a.sheet k.result k.ensures) ∙ (not-false _ c.if-not-checked.false) in it)) in it)) in it)) ∙ c.if-n-eq0.true in
     let v = w ∙ ap going z in
-    record {answer = sym v; bytes = sym (written_put a.rate a.sheet a.buffer.now a.start a.at 0 v ∙ blocks_none (placed a.rate a.sheet) a.buffer.now a.at a.start);}
+    record { answer = sym v; bytes = sym (written_put a.rate a.sheet a.buffer.now a.start a.at 0 v ∙ blocks_none (placed a.rate a.sheet) a.buffer.now a.at a.start) }
 
 pub write_blocks-requires : goal.write_blocks-requires
 unfolding room_at
@@ -89,4 +89,4 @@ returns c =
     let a = c.args in
     let w = written_room a.rate a.sheet a.buffer.now a.start a.at ((let it : let a = c.args in is_sheet a.rate a.sheet ≡ true = let a = c.args in let k = c.check-checked in sym (checked_passes a.rate a.sheet k.result k.ensures) ∙ (not-false _ c.if-not-checked.false) in it)) ((let it : let a = c.args in a.start ≤ length_of a.rate a.sheet = let a = c.args in subst (λ (n : ℕ). a.start ≤ n) ((let it : let a = c.args in c.check-checked.result.length ≡ length_of a.rate a.sheet = let a = c.args in let k = c.check-checked in checked_length a.rate a.sheet k.result k.ensures ((let it : let a = c.args in is_sheet a.rate a.sheet ≡ true = let a = c.args in let k = c.check-checked in sym (checked_passes a.rate a.sheet k.result k.ensures) ∙ (not-false _ c.if-not-checked.false) in it)) in it)) c.if-start-samples.false in it)) c.if-at-buffer.false
     (has_room (length a.buffer.now) a.at _ _ ((let it : let a = c.args in c.least-n.result ≡ min (room_at (length a.buffer.now) a.at) (length_of a.rate a.sheet - a.start) = let a = c.args in c.least-n.ensures ∙ ap (λ (n : ℕ). min ((length a.buffer.now - a.at) / 2) (n - a.start)) ((let it : let a = c.args in c.check-checked.result.length ≡ length_of a.rate a.sheet = let a = c.args in let k = c.check-checked in checked_length a.rate a.sheet k.result k.ensures ((let it : let a = c.args in is_sheet a.rate a.sheet ≡ true = let a = c.args in let k = c.check-checked in sym (checked_passes a.rate a.sheet k.result k.ensures) ∙ (not-false _ c.if-not-checked.false) in it)) in it)) in it)) c.if-n-eq0.false) ∙ ap going (sym ((let it : let a = c.args in c.least-n.result ≡ min (room_at (length a.buffer.now) a.at) (length_of a.rate a.sheet - a.start) = let a = c.args in c.least-n.ensures ∙ ap (λ (n : ℕ). min ((length a.buffer.now - a.at) / 2) (n - a.start)) ((let it : let a = c.args in c.check-checked.result.length ≡ length_of a.rate a.sheet = let a = c.args in let k = c.check-checked in checked_length a.rate a.sheet k.result k.ensures ((let it : let a = c.args in is_sheet a.rate a.sheet ≡ true = let a = c.args in let k = c.check-checked in sym (checked_passes a.rate a.sheet k.result k.ensures) ∙ (not-false _ c.if-not-checked.false) in it)) in it)) in it))) in
-    record {answer = sym w; bytes = c.write_blocks.ensures ∙ sym (written_put a.rate a.sheet a.buffer.now a.start a.at c.least-n.result w);}
+    record { answer = sym w; bytes = c.write_blocks.ensures ∙ sym (written_put a.rate a.sheet a.buffer.now a.start a.at c.least-n.result w) }

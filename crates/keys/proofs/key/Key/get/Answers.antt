@@ -1,6 +1,5 @@
 -- `get` makes the test of the definition. Assumes nothing.
 use mathlib.Core.Path.{sym, ◌∙◌}
-use borrow.Author.Rules.{rules}
 use Rattle.keys.specs.Keys.{accidental_in}
 use Rattle.keys.proofs.key.Key.get.Goals as goal
 

@@ -3,7 +3,6 @@
 use mathlib.Core.Path.{ap, ◌∙◌}
 use mathlib.Core.List.{List}
 use Prim.Native.Nat.{ℕ}
-use borrow.Author.Rules.{rules}
 use Rattle.operator.specs.Lent.{operator_by}
 use Rattle.operator.proofs.Lent.{by_quarter}
 use Rattle.operator.proofs.operator.Operator.eval.Goals as goal

@@ -2,7 +2,6 @@
 -- Assumes nothing.
 use mathlib.Core.Path.{sym, ap, ◌∙◌}
 use Prim.Native.Nat.{suc}
-use borrow.Author.Rules.{rules}
 use Rattle.operator.specs.declared.operator.Level.{Level}
 use Rattle.operator.specs.Evaluation.{rounds}
 use Rattle.operator.specs.Lent.{worked_by, operator_by}

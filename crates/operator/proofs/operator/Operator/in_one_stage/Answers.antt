@@ -1,7 +1,5 @@
 -- `in_one_stage` asks of each stage whether all lanes are in it, and then has the levels of that stage (`LaneLaws`).
 -- Assumes nothing.
-use Prim.Native.Nat.{◌-◌}
-use borrow.Author.Rules.{rules}
 use Rattle.operator.proofs.LaneLaws.{staged_steady, staged_released, staged_decaying, staged_rising, staged_none}
 use Rattle.operator.proofs.operator.Operator.in_one_stage.Goals as goal
 

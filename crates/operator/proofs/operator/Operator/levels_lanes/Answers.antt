@@ -1,10 +1,9 @@
 -- `levels_lanes` has the levels of lanes that are in one stage, and else takes them one by one, up to a lane that is past.
 -- Assumes nothing.
 use mathlib.Core.Path.{◌≡◌, sym, subst, ◌∙◌}
-use Prim.Native.Nat.{ℕ, ◌-◌}
+use Prim.Native.Nat.{ℕ}
 use native.Mathlib.Omega.{arith}
-use borrow.Author.Rules.{rules}
-use lib.ListN.{length, length-set}
+use lib.ListN.{length-set}
 use Rattle.operator.specs.Lanes.{Levelled}
 use Rattle.operator.proofs.LaneLaws.{levelled_none, levelled_more}
 use Rattle.operator.proofs.operator.Operator.levels_lanes.Goals as goal

@@ -1,12 +1,9 @@
 -- `levels_lanes` has the levels of lanes that are in one stage, and else takes them one by one, up to a lane that is past.
 -- Assumes nothing.
-use mathlib.Core.Path.{◌≡◌, sym, subst, ◌∙◌}
-use Prim.Native.Nat.{ℕ, ◌-◌}
-use native.Mathlib.Omega.{arith}
-use borrow.Author.Rules.{rules}
-use lib.ListN.{length, length-set}
+use mathlib.Core.Path.{◌≡◌}
+use Prim.Native.Nat.{◌-◌}
+use lib.ListN.{length}
 use Rattle.operator.specs.Lanes.{Levelled}
-use Rattle.operator.proofs.LaneLaws.{levelled_none, levelled_more}
 use Rattle.operator.proofs.operator.Operator.levels_lanes.Given as goal
 
 abbrev pub invariant-loop-j : goal.invariant-loop-j

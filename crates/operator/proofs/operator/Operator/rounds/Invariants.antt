@@ -1,15 +1,11 @@
 -- `rounds` does one round before its loop and one in each turn: what is left of them, done on x, gives the result.
 -- Assumes nothing.
-use mathlib.Core.Path.{◌≡◌, sym, ap, ◌∙◌}
+use mathlib.Core.Path.{◌≡◌}
 use mathlib.Core.List.{List}
 use Prim.Native.Nat.{ℕ, suc, ◌-◌}
-use native.Mathlib.Omega.{arith}
-use borrow.Author.Rules.{rules}
-use lib.Ieee.{Float, of_bits, binary32, add, mul}
+use lib.Ieee.{Float, binary32, add, mul}
 use Rattle.sine.specs.Turn.{turn_sine_by}
 use Rattle.operator.specs.Evaluation.{rounds}
-use Rattle.operator.specs.Lent.{worked_by}
-use Rattle.operator.proofs.Rounds.{rounds_first, rounds_more, rounds_done}
 use Rattle.operator.proofs.operator.Operator.rounds.Given as goal
 
 -- one round, by the locals that the loop reads

@@ -1,9 +1,8 @@
 -- `rounds_lanes` does one round in all lanes before its loop, and one in each turn.
 -- Assumes nothing.
 use mathlib.Core.Path.{◌≡◌, subst, ◌∙◌}
-use Prim.Native.Nat.{ℕ, suc, ◌-◌, ◌≤◌}
+use Prim.Native.Nat.{ℕ, suc}
 use native.Mathlib.Omega.{arith}
-use borrow.Author.Rules.{rules}
 use Rattle.operator.specs.Lanes.{Lanes, round_at, rounds_at}
 use Rattle.operator.proofs.LaneLaws.{rounds_none, lanes_first, lanes_round}
 use Rattle.operator.proofs.operator.Operator.rounds_lanes.Goals as goal

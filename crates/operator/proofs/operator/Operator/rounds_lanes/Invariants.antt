@@ -1,11 +1,7 @@
 -- `rounds_lanes` does one round in all lanes before its loop, and one in each turn.
 -- Assumes nothing.
-use mathlib.Core.Path.{◌≡◌, subst, ◌∙◌}
-use Prim.Native.Nat.{ℕ, suc, ◌-◌, ◌≤◌}
-use native.Mathlib.Omega.{arith}
-use borrow.Author.Rules.{rules}
+use Prim.Native.Nat.{◌-◌, ◌≤◌}
 use Rattle.operator.specs.Lanes.{Lanes, round_at, rounds_at}
-use Rattle.operator.proofs.LaneLaws.{rounds_none, lanes_first, lanes_round}
 use Rattle.operator.proofs.operator.Operator.rounds_lanes.Given as goal
 
 abbrev pub invariant-loop-r : goal.invariant-loop-r

@@ -1,14 +1,11 @@
 -- `work` does what `work_front` left, lane by lane, at the time of each.
 -- Assumes nothing.
-use mathlib.Core.Path.{◌≡◌, refl, ◌∙◌}
+use mathlib.Core.Path.{◌≡◌}
 use mathlib.Core.List.{List}
-use Prim.Native.Nat.{◌-◌, ◌≤◌, min}
-use native.Mathlib.Omega.{arith}
-use borrow.Author.Rules.{rules}
-use lib.ListN.{length, length-set}
+use Prim.Native.Nat.{◌-◌, ◌≤◌}
+use lib.ListN.{length}
 use lib.Ieee.{Float}
 use Rattle.operator.specs.Lanes.{Lanes, worked_at}
-use Rattle.operator.proofs.LaneLaws.{lanes_more, lanes_over}
 use Rattle.operator.proofs.operator.Operator.work.Given as goal
 
 -- whatever came in, of which the lanes up to the first turn's are worked on, is worked on up to this turn's

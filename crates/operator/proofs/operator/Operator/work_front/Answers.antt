@@ -2,7 +2,6 @@
 -- Assumes nothing.
 use mathlib.Core.Path.{refl}
 use native.Mathlib.Omega.{arith}
-use borrow.Author.Rules.{rules}
 use Rattle.operator.proofs.LaneLaws.{lanes_none, lanes_work}
 use Rattle.operator.proofs.operator.Operator.work_front.Goals as goal
 
