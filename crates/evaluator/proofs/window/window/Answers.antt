@@ -15,7 +15,7 @@ use Rattle.sheet.specs.Answers.{answered}
 use Rattle.handed.specs.Check.{is_sheet}
 use Rattle.handed.proofs.Answers.{checked_passes, checked_length}
 use Rattle.mixing.specs.Placing.{placed}
-use Rattle.evaluator.proofs.Owned.{each_tells}
+use Rattle.evaluator.proofs.Owned.{each_own_tells}
 use Rattle.sheet.specs.contracts.note.Note.{the_row}
 use Rattle.evaluator.proofs.Rendered.{Fitting, mixed_is}
 use Rattle.evaluator.proofs.Windows.{window_28, window_29, window_taken, window_refused, window_is, windowed_length}
@@ -50,6 +50,6 @@ returns c =
     sym (checked_passes a.rate a.sheet k.result k.ensures) ∙ (not-false _ c.if-not-checked.false) in
     let n = checked_length a.rate a.sheet k.result k.ensures e in
     let l : a.start ≤ length_of a.rate a.sheet = subst (λ (i : ℕ). a.start ≤ i) n c.if-start-samples.false in
-    let v = m.ensures ∙ mixed_is a.rate a.sheet ((let it : c.args.rate < 2 ^ 32 = c.well_formed.1.1.0.1 in it)) e ((let it : Fitting c.args.sheet = each_tells the_row.own_val (λ (n : Note). T (fits binary32 n.duration)) (λ (n : Note) u h. subst T (sym h.1.1.1.1.0.1) tt) c.args.sheet.notes _ c.well_formed.0.1.1.1.1.0.1.1 in it)) a.start a.out.now in
+    let v = m.ensures ∙ mixed_is a.rate a.sheet ((let it : c.args.rate < 2 ^ 32 = c.well_formed.1.1.0.1 in it)) e ((let it : Fitting c.args.sheet = each_own_tells the_row.own_val (λ (n : Note). T (fits binary32 n.duration)) (λ (n : Note) u h. subst T (sym h.1.1.1.1.0.1) tt) c.args.sheet.notes _ c.well_formed.0.1.1.1.1.0.1.1 in it)) a.start a.out.now in
     let o = ap length v ∙ windowed_length (placed a.rate a.sheet) (length_of a.rate a.sheet) a.start a.out.now in
     record { answer = ap going (c.least.ensures ∙ ap₂ (λ (x y : ℕ). min x (y - a.start)) o n) ∙ sym (window_taken a.rate a.sheet a.start (length a.out.now) e l); values = v ∙ sym (window_is a.rate a.sheet a.start a.out.now e) }

@@ -17,7 +17,7 @@ use Rattle.handed.proofs.Passing.{passing}
 use Rattle.evaluator.specs.Samples.{samples_from}
 use Rattle.mixing.specs.Placing.{placed}
 use Rattle.mixing.proofs.Walk.{mix_all_length}
-use Rattle.evaluator.proofs.Owned.{each_tells}
+use Rattle.evaluator.proofs.Owned.{each_own_tells}
 use Rattle.sheet.specs.contracts.note.Note.{the_row}
 use Rattle.evaluator.proofs.Rendered.{Fitting}
 use Rattle.windows.proofs.Windows.{blocks_none}
@@ -88,11 +88,11 @@ loop-done-preserved c =
     let last : length m.new.out ≡ n =
     ap length m.ensures ∙ mix_all_length 0 (placed a.rate a.sheet) (a.start + l.done) (take n l.block) ∙ part ∙ sym (whole k.result) in
     let made = take_at m.new.out (drop n l.block) n last ∙ m.ensures in
-    let g = wrote_more a.rate a.sheet ((let it : c.args.rate < 2 ^ 32 = c.well_formed.1.1.1.0.1 in it)) c.requires.0 ((let it : Fitting c.args.sheet = each_tells the_row.own_val (λ (n : Note). T (fits binary32 n.duration)) (λ (n : Note) u h. subst T (sym h.1.1.1.1.0.1) tt) c.args.sheet.notes _ c.well_formed.0.1.1.1.1.0.1.1 in it)) a.start a.at a.n a.buffer.now c.requires.1.0 c.requires.1.1 l.done k.result l.buffer _
+    let g = wrote_more a.rate a.sheet ((let it : c.args.rate < 2 ^ 32 = c.well_formed.1.1.1.0.1 in it)) c.requires.0 ((let it : Fitting c.args.sheet = each_own_tells the_row.own_val (λ (n : Note). T (fits binary32 n.duration)) (λ (n : Note) u h. subst T (sym h.1.1.1.1.0.1) tt) c.args.sheet.notes _ c.well_formed.0.1.1.1.1.0.1.1 in it)) a.start a.at a.n a.buffer.now c.requires.1.0 c.requires.1.1 l.done k.result l.buffer _
     (take n l.block) _ l.invariant.3 part more made w.ensures.bytes in (
       more,
       (let it : length (c.mix.new.out ++ drop (c.least-k.result - 0) c.loop-done.block) ≡ 16384 = let a = c.args in let l = c.loop-done in let n = c.least-k.result - 0 in front_kept n l.block c.mix.new.out (ap length c.mix.ensures ∙ mix_all_length 0 (placed a.rate a.sheet) (a.start + l.done) (take n l.block)) ∙ l.invariant.1 in it),
-      wrote_length a.rate a.sheet ((let it : c.args.rate < 2 ^ 32 = c.well_formed.1.1.1.0.1 in it)) c.requires.0 ((let it : Fitting c.args.sheet = each_tells the_row.own_val (λ (n : Note). T (fits binary32 n.duration)) (λ (n : Note) u h. subst T (sym h.1.1.1.1.0.1) tt) c.args.sheet.notes _ c.well_formed.0.1.1.1.1.0.1.1 in it)) a.start a.at a.n a.buffer.now c.requires.1.0 c.requires.1.1 _ _ g more,
+      wrote_length a.rate a.sheet ((let it : c.args.rate < 2 ^ 32 = c.well_formed.1.1.1.0.1 in it)) c.requires.0 ((let it : Fitting c.args.sheet = each_own_tells the_row.own_val (λ (n : Note). T (fits binary32 n.duration)) (λ (n : Note) u h. subst T (sym h.1.1.1.1.0.1) tt) c.args.sheet.notes _ c.well_formed.0.1.1.1.1.0.1.1 in it)) a.start a.at a.n a.buffer.now c.requires.1.0 c.requires.1.1 _ _ g more,
       g,
     )
 
