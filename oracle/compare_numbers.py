@@ -128,7 +128,6 @@ def chosen():
         *(of_numbers(DURATION, *numbers) for numbers in DURATIONS),
         *(of_numbers(LENGTH, x, 44_100) for x in LENGTHS),
         of_numbers(SINES, 0x3F800000, 256),
-        *(across(field, 49) for field in (0, 95, 127, 150, 158, 255, 256, 383)),
         of_numbers(99),
     ))
 
