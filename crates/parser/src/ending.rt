@@ -31,7 +31,8 @@ fn empty_sheet() -> Sheet
     }
 }
 
-// The reading that a refusal ends.
+// The reading that a refusal ends. It is called at four places, whose sheets would each take room beside the columns if it stood in the caller.
+#[inline(never)]
 pub(crate) fn refused_reading(refusal: u32, line: usize) -> Reading
     ensures { result ≡ laid_out (refused refusal line) }
 {
@@ -79,7 +80,8 @@ fn end_refusal(floats: &[f32], bytes: &[u8], releases: &[f32], q: Sofar, rate: u
     0
 }
 
-// The reading without a refusal, of `instruments` instruments.
+// The reading without a refusal, of `instruments` instruments. It takes its room after the columns are read, as the one above does.
+#[inline(never)]
 fn laid(
     floats: &[f32],
     bytes: &[u8],

@@ -1,40 +1,13 @@
 // The reader of sheets (the Rust's `parser.rs`): what a source's bytes mean, or why they are refused.
 
-ghost use Rattle.std.specs.Prelude.{◌≡◌, ◌≤◌, max, length};
-ghost use Rattle.lines.specs.Lines.{lines_of};
-ghost use Rattle.sheet.specs.Refusals.{◌>>=◌ as ◌then◌};
-ghost use Rattle.meaning.specs.Layout.{laid_out, reading_of};
-ghost use Rattle.meaning.specs.Sheets.{nothing_read, lines_read, ended, all_below128};
+ghost use Rattle.std.specs.Prelude.{◌≡◌, max};
+ghost use Rattle.meaning.specs.Layout.{reading_of};
+ghost use Rattle.meaning.specs.Sheets.{all_below128};
 
 use crate::ending::{finished, refused_reading};
 use crate::walk::walk;
 use meaning::reading::Reading;
 use strict::mode::Mode;
-
-// The lines of a source, read into tables and columns that have room for all that the capacities allow.
-fn read_lines(source: &[u8], rate: u32, mode: Mode) -> Reading
-    requires { length source.now ≤ 32768 }
-    ensures { result ≡ laid_out (lines_read mode rate 0 1 (lines_of source.now) nothing_read then (λ x. ended rate x)) }
-{
-    let mut bodies = [0usize; 128];
-    let mut numbers = [0.0f32; 6176];
-    let mut shape = [0usize; 2272];
-    let mut floats = [0.0f32; 98304];
-    let mut bytes = [0u8; 32768];
-    let mut loops = [0usize; 288];
-    let q = walk(
-        source,
-        &mut bodies,
-        &mut numbers,
-        &mut shape,
-        &mut floats,
-        &mut bytes,
-        &mut loops,
-        rate,
-        mode,
-    );
-    finished(&floats, &bytes, &numbers, &shape, q, rate)
-}
 
 // The larger of two bytes.
 fn larger_byte(a: u8, b: u8) -> u8
@@ -59,7 +32,8 @@ fn all_below_128(source: &[u8]) -> bool
     most < 128
 }
 
-// What a source is read as in a mode: a refusal with its line, or a sheet with the steps that were read.
+// What a source is read as in a mode: a refusal with its line, or a sheet with the steps that were read. Its lines are read into tables and columns
+// that have room for all that the capacities allow, and stand here since each function that hands a sheet on keeps one more on the stack.
 pub fn read(source: &[u8], mode: Mode) -> Reading
     ensures { result ≡ reading_of mode 44100 source.now }
 {
@@ -69,5 +43,23 @@ pub fn read(source: &[u8], mode: Mode) -> Reading
     if !all_below_128(source) {
         return refused_reading(2, 0);
     }
-    read_lines(source, 44100, mode)
+    let rate = 44100;
+    let mut bodies = [0usize; 128];
+    let mut numbers = [0.0f32; 6176];
+    let mut shape = [0usize; 2272];
+    let mut floats = [0.0f32; 98304];
+    let mut bytes = [0u8; 32768];
+    let mut loops = [0usize; 288];
+    let q = walk(
+        source,
+        &mut bodies,
+        &mut numbers,
+        &mut shape,
+        &mut floats,
+        &mut bytes,
+        &mut loops,
+        rate,
+        mode,
+    );
+    finished(&floats, &bytes, &numbers, &shape, q, rate)
 }
