@@ -27,7 +27,7 @@
  * The thread's floating-point state is the one in which every C program starts: rounding to nearest, all exceptions masked, and no small number flushed to
  * zero (of MXCSR the rounding bits, the masks, FTZ and DAZ; fesetround(FE_TONEAREST), no feenableexcept). In another state the answer may be another, or a
  * call raises SIGFPE.
- * A call takes some 1,400,000 bytes of stack, whether the text is accepted or refused and whatever its length, and nothing of the heap;
+ * A call takes some 1,020,000 bytes of stack, whether the text is accepted or refused and whatever its length, and nothing of the heap;
  * a thread that calls has CUE_STACK bytes left.
  *
  * Refusals: 1 to 27 are the text's, in the order in which document 01 asks them, each with its line, and in strict mode 32 too, a number or key with
@@ -76,7 +76,7 @@ extern "C" {
 #define CUE_HEADER 44
 
 /* Enough stack for any call, in bytes. */
-#define CUE_STACK 1572864
+#define CUE_STACK 1048576
 
 /* The modes. */
 enum { CUE_PLAIN = 0, CUE_STRICT = 1 };
