@@ -31,7 +31,8 @@ fn empty_sheet() -> Sheet
     }
 }
 
-// The reading that a refusal ends. It is not compiled into its callers, where each of its four calls would take room for a sheet.
+// The reading that a refusal ends. It is not compiled into its callers, where each of its four calls
+// would take room for a sheet.
 #[inline(never)]
 pub(crate) fn refused_reading(refusal: u32, line: usize) -> Reading
     ensures { result ≡ laid_out (refused refusal line) }
@@ -80,7 +81,8 @@ fn end_refusal(floats: &[f32], bytes: &[u8], releases: &[f32], q: Sofar, rate: u
     0
 }
 
-// The reading without a refusal, of `instruments` instruments. It is not compiled into its caller, where its arrays would take room beside the columns.
+// The reading without a refusal, of `instruments` instruments. It is not compiled into its caller, where
+// its arrays would take room beside the columns.
 #[inline(never)]
 fn laid(
     floats: &[f32],

@@ -32,8 +32,9 @@ fn all_below_128(source: &[u8]) -> bool
     most < 128
 }
 
-// What a source is read as in a mode: a refusal with its line, or a sheet with the steps that were read. Its lines are read into tables and columns
-// that have room for all that the capacities allow, and stand here since each function that hands a sheet on keeps one more on the stack.
+// What a source is read as in a mode: a refusal with its line, or a sheet with the steps that were read.
+// Its lines are read into tables and columns that have room for all that the capacities allow. They stand
+// here since each function that hands a sheet on keeps one more on the stack.
 pub fn read(source: &[u8], mode: Mode) -> Reading
     ensures { result ≡ reading_of mode 44100 source.now }
 {
