@@ -5,4 +5,5 @@
 pub mod answer;
 pub mod length;
 pub mod note;
+pub mod refusal;
 pub mod sheet;

@@ -1,4 +1,5 @@
 pub mod Blanks
 pub mod Characters
 pub mod Fronts
+pub mod Parsed
 pub mod Quoted

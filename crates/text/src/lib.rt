@@ -5,3 +5,4 @@
 
 pub mod blanks;
 pub mod characters;
+pub mod parsed;
