@@ -1,6 +1,6 @@
 -- How a time is counted in samples, in laws that code cites. A ceiling is the least whole number that is at least a fraction, so three tests of
 -- floats single out the times that have no number of samples, and one more says whether the cut-off fraction adds a sample. Assumes nothing.
-use Rattle.std.proofs.Common.{◌≡◌, ℕ, ◌+◌, ◌-◌, ◌*◌, ◌/◌, ◌<◌, ◌≤◌, true, false, T, ℤ, pos, sym, refl, ap, ◌∙◌, subst, true≢false, le_of_suc-le-suc, mul-le-mul_right, div-lt_iff_lt-mul, le_antisymm, lt_of_mul-lt-mul_right, mul-le-mul_left, div-mul-le_self, le_of_mul-le-mul_right, arith, le→leb, ltb-false, ltb-true, eq-eqb, ne_eqb, le-leb}
+use Rattle.std.proofs.Common.{◌≡◌, ℕ, ◌+◌, ◌-◌, ◌*◌, ◌/◌, ◌<◌, ◌≤◌, true, false, T, ℤ, pos, sym, refl, ap, ◌∙◌, subst, true≢false, le_of_suc-le-suc, mul-le-mul_right, div-lt_iff_lt-mul, le_antisymm, lt_of_mul-lt-mul_right, mul-le-mul_left, div-mul-le_self, le_of_mul-le-mul_right, arith, le→leb, ltb-false, ltb-true, eq-eqb, ne_eqb, le-leb, Ok, Err}
 use native.Mathlib.Nat.{lt-div-mul-add}
 use lib.Ieee.{Float, nan, inf, fin, binary32, up, down, lt, ne, of_int, to_unsigned}
 use lib.Ieee.Fits.{down_pos, up_pos}
@@ -10,7 +10,7 @@ use lib.Ieee.Exact.{HasValue}
 use lib.Ieee.Back.{round_whole}
 use borrow.Author.Tests.{lt-leb}
 use Rattle.ieee.specs.Constants.{minus_one, plus_zero}
-use Rattle.tone.specs.declared.time.Length.TheVariants.{Samples, NotANumber, Negative, TooMany}
+use Rattle.tone.specs.declared.time.Uncounted.TheVariants.{NotANumber, Negative, TooMany}
 use Rattle.tone.specs.Time.{ceiling, count_of, note_most}
 
 -- ---- ceilings: the least whole number that is at least n / d
@@ -45,12 +45,12 @@ ceiling_more n d p h = le_antisymm (ceiling_le n d (n / d + 1) p (omega (arith, 
 -- ---- the tests for times that have no number of samples
 
 -- `x != x` holds of a NaN alone
-pub counted_nan : (x : Float) → ne x x ≡ true → NotANumber ≡ count_of x
+pub counted_nan : (x : Float) → ne x x ≡ true → Err NotANumber ≡ count_of x
 unfolding count_of
 counted_nan x t = rw (differs_from_itself x (subst T (sym t) tt))
 
 -- `x < 0.0` of what is below zero, and not of -0.0
-pub counted_negative : (x : Float) → lt x plus_zero ≡ true → Negative ≡ count_of x
+pub counted_negative : (x : Float) → lt x plus_zero ≡ true → Err Negative ≡ count_of x
 unfolding count_of lt
 counted_negative nan t = cc
 counted_negative (inf true) t = refl
@@ -61,7 +61,7 @@ counted_negative (fin true m e) t =
 counted_negative (fin false m e) t = absurd (omega (arith, ltb-true))
 
 -- `x > 16777216.0` of what has more samples than one note may have
-pub counted_many : (x : Float) → lt (fin false 1 (pos 24)) x ≡ true → TooMany ≡ count_of x
+pub counted_many : (x : Float) → lt (fin false 1 (pos 24)) x ≡ true → Err TooMany ≡ count_of x
 unfolding count_of lt
 counted_many nan t = cc
 counted_many (inf true) t = cc
@@ -142,15 +142,15 @@ module _ (w m : ℕ) (e : ℤ) where
   whole_signed (fin false n d) v = refl
 
 -- a ceiling within the limit is the number of samples
-pub counted : (m : ℕ) (e : ℤ) → ceiling (m * up e) (down e) ≤ note_most → count_of (fin false m e) ≡ Samples (ceiling (m * up e) (down e))
+pub counted : (m : ℕ) (e : ℤ) → ceiling (m * up e) (down e) ≤ note_most → count_of (fin false m e) ≡ Ok (ceiling (m * up e) (down e))
 unfolding count_of
 counted m e h = rw (le-leb _ _ h, count_of)
 
-below : (m : ℕ) (e : ℤ) → m * up e ≤ note_most * down e → count_of (fin false m e) ≡ Samples (ceiling (m * up e) (down e))
+below : (m : ℕ) (e : ℤ) → m * up e ≤ note_most * down e → count_of (fin false m e) ≡ Ok (ceiling (m * up e) (down e))
 below m e h = counted m e (ceiling_le (m * up e) (down e) note_most (down_pos e) h)
 
 -- what is cut off makes one sample more
-pub counted_more : (x : Float) → Within x → lt (of_int binary32 (pos (to_unsigned 64 x))) x ≡ true → Samples (to_unsigned 64 x + 1) ≡ count_of x
+pub counted_more : (x : Float) → Within x → lt (of_int binary32 (pos (to_unsigned 64 x))) x ≡ true → Ok (to_unsigned 64 x + 1) ≡ count_of x
 counted_more nan h t = absurd h
 counted_more (inf s) h t = absurd h
 counted_more (fin true m e) h t = absurd (true≢false (sym t ∙ whole_signed _ m e _ (cast (fin true m e) h)))
@@ -159,7 +159,7 @@ counted_more (fin false m e) h t =
     rw (cut m e h, below m e h, ceiling_more (m * up e) (down e) (down_pos e) (rw (cut m e h) at l))
 
 -- and where nothing is cut off, the number is whole
-pub counted_even : (x : Float) → Within x → lt (of_int binary32 (pos (to_unsigned 64 x))) x ≡ false → Samples (to_unsigned 64 x) ≡ count_of x
+pub counted_even : (x : Float) → Within x → lt (of_int binary32 (pos (to_unsigned 64 x))) x ≡ false → Ok (to_unsigned 64 x) ≡ count_of x
 unfolding to_unsigned count_of
 counted_even nan h t = absurd h
 counted_even (inf s) h t = absurd h

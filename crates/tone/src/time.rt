@@ -4,10 +4,9 @@
 ghost use Rattle.std.specs.Prelude.{◌≡◌};
 ghost use Rattle.tone.specs.Time.{duration_of, count_of, length_of};
 
-// How many samples a time takes: their number, or why there is none.
-#[derive(Clone, Copy)]
-pub enum Length {
-    Samples(u64),
+// Why a time has no number of samples.
+#[derive(Clone, Copy, Debug, PartialEq, Eq)]
+pub enum Uncounted {
     NotANumber,
     Negative,
     TooMany,
@@ -27,27 +26,27 @@ pub fn duration(tempo: u32, denom: u32, value: u32, dotted: bool) -> f32
 }
 
 // A time counted in samples, rounded up to a whole number of them.
-fn count(samples: f32) -> Length
+fn count(samples: f32) -> Result<u64, Uncounted>
     ensures { result ≡ count_of samples }
 {
     if samples != samples {
-        return Length::NotANumber;
+        return Err(Uncounted::NotANumber);
     }
     if samples < 0.0 {
-        return Length::Negative;
+        return Err(Uncounted::Negative);
     }
     if samples > 16777216.0 {
-        return Length::TooMany;
+        return Err(Uncounted::TooMany);
     }
     let whole = std::num::truncating_f32_to_u64(samples);
     if (whole as f32) < samples {
-        return Length::Samples(whole + 1);
+        return Ok(whole + 1);
     }
-    Length::Samples(whole)
+    Ok(whole)
 }
 
 // How many samples so many seconds take at a rate: ceil(seconds * rate), the product in f32.
-pub fn sec_to_len(seconds: f32, rate: u32) -> Length
+pub fn sec_to_len(seconds: f32, rate: u32) -> Result<u64, Uncounted>
     ensures { result ≡ length_of rate seconds }
 {
     count(seconds * std::num::nearest_u32_to_f32(rate))
