@@ -13,7 +13,9 @@ use lib.ListN.{drop_of_length-le}
 use lib.Pow.{pow-add}
 use lib.Ieee.{Float, binary32, round}
 use borrow.Author.Tests.{le-leb, lt-leb, eq-eqb, ne_eqb}
-use Rattle.number.specs.declared.decimal.Decimal.TheVariants.{Value, Unreadable, TooLong}
+use Rattle.std.specs.Prelude.{Ok, Err}
+use Rattle.text.specs.Parsed.{parsed}
+use Rattle.number.specs.declared.decimal.NoDecimal.TheVariants.{Unreadable, TooLong}
 use Rattle.text.specs.Fronts.{front, after}
 use Rattle.number.specs.Digits.{is_digit, value_from}
 use Rattle.number.specs.Decimal.{nearest_to, judged, pointed, ended, begun, decimal_at}
@@ -21,18 +23,18 @@ use Rattle.text.proofs.Fronts.{after_is}
 use Rattle.number.proofs.Runs.{value_below, value_append}
 
 -- over 18 digits
-pub judged_long : (ds es : List ℕ) (next : ℕ) → 18 < length ds + length es → TooLong ≡ judged ds es next
+pub judged_long : (ds es : List ℕ) (next : ℕ) → 18 < length ds + length es → Err TooLong ≡ judged ds es next
 unfolding judged
 judged_long ds es next h = rw (lt-leb _ _ h, judged)
 
 -- up to 18 digits
 pub judged_value : (ds es : List ℕ) (next : ℕ) (x : Float) → length ds + length es ≤ 18
-    → x ≡ round binary32 false (value_from (value_from 0 ds) es) (10 ^ length es) → Value x next ≡ judged ds es next
+    → x ≡ round binary32 false (value_from (value_from 0 ds) es) (10 ^ length es) → Ok (parsed x next) ≡ judged ds es next
 unfolding judged nearest_to
-judged_value ds es next x h e = rw (le-leb _ _ h, judged) (ap (λ (y : Float). Value y next) (e ∙ ap (λ (n : ℕ). round binary32 false n (10 ^ length es)) (sym (value_append 0 ds es))))
+judged_value ds es next x h e = rw (le-leb _ _ h, judged) (ap (λ (y : Float). Ok (parsed y next)) (e ∙ ap (λ (n : ℕ). round binary32 false n (10 ^ length es)) (sym (value_append 0 ds es))))
 
 -- up to 18 digits with none after the point
-pub judged_whole : (ds : List ℕ) (next : ℕ) (x : Float) → length ds ≤ 18 → x ≡ round binary32 false (value_from 0 ds) 1 → Value x next ≡ judged ds [] next
+pub judged_whole : (ds : List ℕ) (next : ℕ) (x : Float) → length ds ≤ 18 → x ≡ round binary32 false (value_from 0 ds) 1 → Ok (parsed x next) ≡ judged ds [] next
 unfolding value_from
 judged_whole ds next x h e = judged_value ds [] next x (omega arith) e
 
@@ -55,7 +57,7 @@ value_room v s h = lt_of_lt_of_le (value_below v s) h
 
 -- ---- after the point
 
-pub pointed_none : (at : ℕ) (ds es : List ℕ) → length es ≡ 0 → Unreadable ≡ pointed at ds es
+pub pointed_none : (at : ℕ) (ds es : List ℕ) → length es ≡ 0 → Err Unreadable ≡ pointed at ds es
 unfolding pointed
 pointed_none at ds [] h = refl
 pointed_none at ds (e ∷ es) h = absurd (omega arith)
@@ -72,7 +74,7 @@ unfolding begun
 begun_some i [] rest h = absurd (omega arith)
 begun_some i (d ∷ ds) rest h = refl
 
-begun_none : (i : ℕ) (ds rest : List ℕ) → length ds ≡ 0 → begun i ds rest ≡ Unreadable
+begun_none : (i : ℕ) (ds rest : List ℕ) → length ds ≡ 0 → begun i ds rest ≡ Err Unreadable
 unfolding begun
 begun_none i [] rest h = refl
 begun_none i (d ∷ ds) rest h = absurd (omega arith)
@@ -90,7 +92,7 @@ unfolding ended
 ended_point i ds b rest h = rw (eq-eqb b 46 h, ended)
 
 -- no digit at the place
-pub decimal_none : (s : List ℕ) (i : ℕ) → length (front is_digit (drop i s)) ≡ 0 → Unreadable ≡ decimal_at s i
+pub decimal_none : (s : List ℕ) (i : ℕ) → length (front is_digit (drop i s)) ≡ 0 → Err Unreadable ≡ decimal_at s i
 unfolding decimal_at
 decimal_none s i h = sym (begun_none i (front is_digit (drop i s)) (after is_digit (drop i s)) h)
 

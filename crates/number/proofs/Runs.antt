@@ -10,9 +10,10 @@ use lib.Dec.{T, leb, leb→le}
 use lib.ListN.{length, drop, get_or}
 use lib.Ieee.Fits.{and_r}
 use borrow.Author.Tests.{le-leb, lt-leb}
-use Rattle.number.specs.declared.digits.Int.{Int}
-use Rattle.number.specs.declared.digits.Int.TheVariants.{Number, Absent}
+use Rattle.std.specs.Prelude.{Option, Some, None}
+use Rattle.text.specs.declared.parsed.Parsed.{Parsed}
 use Rattle.text.specs.Fronts.{front}
+use Rattle.text.specs.Parsed.{parsed}
 use Rattle.text.proofs.Fronts.{cons_true, cons_false, front_more, length_more}
 use Rattle.number.specs.Digits.{is_digit, value_from, int_of, int_at}
 
@@ -22,13 +23,13 @@ unfolding value_from
 value_grows v [] = le_refl v
 value_grows v (d ∷ ds) = le_trans (omega arith) (value_grows (v * 10 + (d - 48)) ds)
 
-over : (limit i : ℕ) (ds : List ℕ) → limit < value_from 0 ds → int_of limit i ds ≡ Absent
+over : (limit i : ℕ) (ds : List ℕ) → limit < value_from 0 ds → int_of limit i ds ≡ None
 unfolding int_of
 over limit i [] h = refl
 over limit i (d ∷ ds) h = rw (lt-leb _ _ h, int_of)
 
 stopped : (limit i : ℕ) (ds : List ℕ) (at v : ℕ) → v ≡ value_from 0 ds → at ≡ i + length ds → v ≤ limit
-    → (r : Int) → (at ≡ i → r ≡ Absent) → ((at ≡ i → ⊥) → r ≡ Number v at) → r ≡ int_of limit i ds
+    → (r : Option (Parsed ℕ)) → (at ≡ i → r ≡ None) → ((at ≡ i → ⊥) → r ≡ Some (parsed v at)) → r ≡ int_of limit i ds
 unfolding int_of
 stopped limit i [] at v e p b r none some = none (omega arith)
 stopped limit i (d ∷ ds) at v e p b r none some =
@@ -88,12 +89,12 @@ module _ (limit : ℕ) (s : List ℕ) (i at v : ℕ) (h : Reading limit s i at v
   reading_more l e b =
       record { value = next l e; place = omega (arith, length_more is_digit s at l e, h.place); below = b }
 
-  pub reading_over : at < length s → is_digit (get_or s at 0) ≡ true → limit < v * 10 + (get_or s at 0 - 48) → Absent ≡ int_at limit s i
+  pub reading_over : at < length s → is_digit (get_or s at 0) ≡ true → limit < v * 10 + (get_or s at 0 - 48) → None ≡ int_at limit s i
   unfolding int_at
   reading_over l e b =
       sym (over limit i (front is_digit (drop i s)) (omega (arith, next l e, value_grows (v * 10 + (get_or s at 0 - 48)) (front is_digit (drop (at + 1) s)))))
 
-  pub reading_stopped : front is_digit (drop at s) ≡ [] → (r : Int) → (at ≡ i → r ≡ Absent) → ((at ≡ i → ⊥) → r ≡ Number v at) → r ≡ int_at limit s i
+  pub reading_stopped : front is_digit (drop at s) ≡ [] → (r : Option (Parsed ℕ)) → (at ≡ i → r ≡ None) → ((at ≡ i → ⊥) → r ≡ Some (parsed v at)) → r ≡ int_at limit s i
   unfolding int_at value_from
   reading_stopped e r none some =
       stopped limit i (front is_digit (drop i s)) at v (sym (ap (value_from v) e) ∙ h.value) (omega (arith, ap length e, h.place)) h.below r none some

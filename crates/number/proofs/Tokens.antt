@@ -14,10 +14,11 @@ use Rattle.text.specs.Blanks.{is_ink}
 use Rattle.text.specs.Fronts.{front, after}
 use Rattle.text.proofs.Fronts.{Stops}
 use Rattle.text.proofs.Joins.{front_joined, after_joined, part_joined, ink_stops, blank_small}
-use Rattle.number.specs.declared.decimal.Decimal.{Decimal}
-use Rattle.number.specs.declared.decimal.Decimal.TheVariants.{Value, Unreadable, TooLong}
-use Rattle.number.specs.declared.digits.Int.{Int}
-use Rattle.number.specs.declared.digits.Int.TheVariants.{Number, Absent}
+use Rattle.std.specs.Prelude.{Float, Option, Some, None, Result, Ok, Err}
+use Rattle.text.specs.declared.parsed.Parsed.{Parsed}
+use Rattle.text.specs.Parsed.{parsed}
+use Rattle.number.specs.declared.decimal.NoDecimal.{NoDecimal}
+use Rattle.number.specs.declared.decimal.NoDecimal.TheVariants.{TooLong}
 use Rattle.number.specs.Digits.{is_digit, value_from, int_of, int_at}
 use Rattle.number.specs.Decimal.{nearest_to, judged, pointed, ended, begun, decimal_at}
 use Rattle.number.proofs.Decimals.{ended_other}
@@ -25,14 +26,13 @@ use Rattle.number.proofs.Decimals.{ended_other}
 -- ---- the same text further on
 
 -- an answer for a text that stands k bytes further on
-abbrev pub int_moved : ℕ → Int → Int
-int_moved k (Number v next) = Number v (k + next)
-int_moved k Absent = Absent
+abbrev pub int_moved : ℕ → Option (Parsed ℕ) → Option (Parsed ℕ)
+int_moved k (Some found) = Some (parsed found.value (k + found.next))
+int_moved k None = None
 
-abbrev pub decimal_moved : ℕ → Decimal → Decimal
-decimal_moved k (Value x next) = Value x (k + next)
-decimal_moved k Unreadable = Unreadable
-decimal_moved k TooLong = TooLong
+abbrev pub decimal_moved : ℕ → Result (Parsed Float) NoDecimal → Result (Parsed Float) NoDecimal
+decimal_moved k (Ok found) = Ok (parsed found.value (k + found.next))
+decimal_moved k (Err why) = Err why
 
 int_of_moved : (limit at : ℕ) (ds : List ℕ) → int_of limit at ds ≡ int_moved at (int_of limit 0 ds)
 unfolding int_of
@@ -43,9 +43,9 @@ int_of_moved limit at (d ∷ ds) = go (leb (value_from 0 (d ∷ ds)) limit)
     v = value_from 0 (d ∷ ds)
 
     go : (b : Bool)
-        → (elim b as (λ _. Int) [ true ↦ Number v (at + length (d ∷ ds)) | false ↦ Absent ])
-        ≡ int_moved at (elim b as (λ _. Int) [ true ↦ Number v (0 + length (d ∷ ds)) | false ↦ Absent ])
-    go true = ap (λ (n : ℕ). Number v (at + n)) (sym (zero-add (length (d ∷ ds))))
+        → (elim b as (λ _. Option (Parsed ℕ)) [ true ↦ Some (parsed v (at + length (d ∷ ds))) | false ↦ None ])
+        ≡ int_moved at (elim b as (λ _. Option (Parsed ℕ)) [ true ↦ Some (parsed v (0 + length (d ∷ ds))) | false ↦ None ])
+    go true = ap (λ (n : ℕ). Some (parsed v (at + n))) (sym (zero-add (length (d ∷ ds))))
     go false = refl
 
 -- a digit run at a place is that of the text from there on, moved
@@ -53,9 +53,9 @@ pub int_moved_law : (limit : ℕ) (s : List ℕ) (at : ℕ) → int_at limit s a
 unfolding int_at
 int_moved_law limit s at = int_of_moved limit at (front is_digit (drop at s))
 
-moved_twice : (k at : ℕ) (n : Int) → int_moved (k + at) n ≡ int_moved k (int_moved at n)
-moved_twice k at (Number v next) = ap (Number v) (omega arith)
-moved_twice k at Absent = refl
+moved_twice : (k at : ℕ) (n : Option (Parsed ℕ)) → int_moved (k + at) n ≡ int_moved k (int_moved at n)
+moved_twice k at (Some found) = ap (λ (n : ℕ). Some (parsed found.value n)) (omega arith)
+moved_twice k at None = refl
 
 -- and so where the place is counted from an earlier one
 pub int_later : (limit : ℕ) (s : List ℕ) (k at : ℕ) → int_at limit s (k + at) ≡ int_moved k (int_at limit (drop k s) at)
@@ -70,8 +70,8 @@ unfolding judged
 judged_moved at ds es n = go (leb (length ds + length es) 18)
   where
     go : (b : Bool)
-        → (elim b as (λ _. Decimal) [ true ↦ Value (nearest_to ds es) (at + n) | false ↦ TooLong ])
-        ≡ decimal_moved at (elim b as (λ _. Decimal) [ true ↦ Value (nearest_to ds es) n | false ↦ TooLong ])
+        → (elim b as (λ _. Result (Parsed Float) NoDecimal) [ true ↦ Ok (parsed (nearest_to ds es) (at + n)) | false ↦ Err TooLong ])
+        ≡ decimal_moved at (elim b as (λ _. Result (Parsed Float) NoDecimal) [ true ↦ Ok (parsed (nearest_to ds es) n) | false ↦ Err TooLong ])
     go true = refl
     go false = refl
 
@@ -89,8 +89,8 @@ ended_moved at ds [] = judged_at at ds [] _ _ (omega arith)
 ended_moved at ds (c ∷ r) = go (eqb c 46)
   where
     go : (b : Bool)
-        → (elim b as (λ _. Decimal) [ true ↦ pointed at ds (front is_digit r) | false ↦ judged ds [] (at + length ds) ])
-        ≡ decimal_moved at (elim b as (λ _. Decimal) [ true ↦ pointed 0 ds (front is_digit r) | false ↦ judged ds [] (0 + length ds) ])
+        → (elim b as (λ _. Result (Parsed Float) NoDecimal) [ true ↦ pointed at ds (front is_digit r) | false ↦ judged ds [] (at + length ds) ])
+        ≡ decimal_moved at (elim b as (λ _. Result (Parsed Float) NoDecimal) [ true ↦ pointed 0 ds (front is_digit r) | false ↦ judged ds [] (0 + length ds) ])
     go true = pointed_moved at ds (front is_digit r)
     go false = judged_at at ds [] _ _ (omega arith)
 
@@ -116,7 +116,7 @@ ended_joined ds [] [] h = refl
 ended_joined ds [] (b ∷ t) h = ended_other 0 ds b t (λ (e : b ≡ 46). omega (arith, blank_small b h))
 ended_joined ds (c ∷ r) t h =
     ap
-    (λ (es : List ℕ). elim (eqb c 46) as (λ _. Decimal) [ true ↦ pointed 0 ds es | false ↦ judged ds [] (0 + length ds) ])
+    (λ (es : List ℕ). elim (eqb c 46) as (λ _. Result (Parsed Float) NoDecimal) [ true ↦ pointed 0 ds es | false ↦ judged ds [] (0 + length ds) ])
     (front_joined is_digit r t (ink_stops is_digit not_digit t h))
 
 begun_joined : (ds rest t : List ℕ) → Stops is_ink t → begun 0 ds (rest ++ t) ≡ begun 0 ds rest

@@ -14,10 +14,11 @@ use borrow.Author.Tests.{leb-true, le-leb, eqb-true}
 use Rattle.text.specs.Fronts.{front, after}
 use Rattle.text.proofs.Passes.{Passes, front_passes, front_after, whole_passes, passed_front, passed_after}
 use Rattle.text.proofs.Passes.{piece_front, piece_after}
-use Rattle.number.specs.declared.digits.Int.{Int}
-use Rattle.number.specs.declared.digits.Int.TheVariants.{Number, Absent}
-use Rattle.number.specs.declared.decimal.Decimal.{Decimal}
-use Rattle.number.specs.declared.decimal.Decimal.TheVariants.{Value, Unreadable, TooLong}
+use Rattle.std.specs.Prelude.{Float, Option, Some, None, Result, Ok, Err}
+use Rattle.text.specs.declared.parsed.Parsed.{Parsed}
+use Rattle.text.specs.Parsed.{parsed}
+use Rattle.number.specs.declared.decimal.NoDecimal.{NoDecimal}
+use Rattle.number.specs.declared.decimal.NoDecimal.TheVariants.{TooLong}
 use Rattle.number.specs.Digits.{is_digit, value_from, int_of, int_at, int_width}
 use Rattle.number.specs.Decimal.{nearest_to, judged, pointed, ended, begun, decimal_at, decimal_width}
 use Rattle.number.proofs.Places.{int_run, int_placed}
@@ -29,21 +30,21 @@ pub run_within : (limit : ℕ) (t : List ℕ) → int_width (int_at limit t 0) �
 unfolding int_width
 run_within limit t = go (int_at limit t 0) refl
   where
-    go : (i : Int) → int_at limit t 0 ≡ i → int_width i ≤ length t
-    go (Number v next) e = (int_placed limit t 0 v next e).within
-    go Absent e = zero-le
+    go : (i : Option (Parsed ℕ)) → int_at limit t 0 ≡ i → int_width i ≤ length t
+    go (Some found) e = (int_placed limit t 0 found e).within
+    go None e = zero-le
 
 module _ (limit : ℕ) (t : List ℕ) (some : 0 < length t) where
   pub run_in_words : int_width (int_at limit t 0) ≡ length t → Passes is_digit t × (value_from 0 t ≤ limit)
   unfolding int_width
   run_in_words w = go (int_at limit t 0) refl w
     where
-      go : (i : Int) → int_at limit t 0 ≡ i → int_width i ≡ length t → Passes is_digit t × (value_from 0 t ≤ limit)
-      go (Number v next) e q =
-          let r = int_run limit t 0 v next e in
+      go : (i : Option (Parsed ℕ)) → int_at limit t 0 ≡ i → int_width i ≡ length t → Passes is_digit t × (value_from 0 t ≤ limit)
+      go (Some found) e q =
+          let r = int_run limit t 0 found e in
           let d = whole_passes is_digit t (omega (arith, q, r.place)) in
           (d, subst (λ (n : ℕ). n ≤ limit) (r.value ∙ ap (value_from 0) (passed_front is_digit t d)) r.below)
-      go Absent e q = absurd (omega (arith, q, some))
+      go None e q = absurd (omega (arith, q, some))
 
 pub words_run : (limit : ℕ) (t : List ℕ) → 0 < length t → Passes is_digit t → value_from 0 t ≤ limit
     → int_width (int_at limit t 0) ≡ length t
@@ -59,10 +60,9 @@ pub decimal_within : (t : List ℕ) → decimal_width (decimal_at t 0) ≤ lengt
 unfolding decimal_width
 decimal_within t = go (decimal_at t 0) refl
   where
-    go : (d : Decimal) → decimal_at t 0 ≡ d → decimal_width d ≤ length t
-    go (Value x next) e = (decimal_placed t 0 x next e).within
-    go Unreadable e = zero-le
-    go TooLong e = zero-le
+    go : (d : Result (Parsed Float) NoDecimal) → decimal_at t 0 ≡ d → decimal_width d ≤ length t
+    go (Ok found) e = (decimal_placed t 0 found e).within
+    go (Err why) e = zero-le
 
 -- "digits, a point, digits"; "Decimal digits 18, both sides of the point together"
 pub record Pointed (t : List ℕ) : Type 0 where
@@ -86,7 +86,7 @@ unfolding judged decimal_width
 judged_width ds es n k some w = go (leb (length ds + length es) 18) refl w
   where
     go : (b : Bool) → leb (length ds + length es) 18 ≡ b
-        → decimal_width (elim b as (λ _. Decimal) [ true ↦ Value (nearest_to ds es) n | false ↦ TooLong ]) ≡ k
+        → decimal_width (elim b as (λ _. Result (Parsed Float) NoDecimal) [ true ↦ Ok (parsed (nearest_to ds es) n) | false ↦ Err TooLong ]) ≡ k
         → (n ≡ k) × (length ds + length es ≤ 18)
     go true e q = (q, leb-true _ _ e)
     go false e q = absurd (omega (arith, q, some))
@@ -136,7 +136,7 @@ module _ (t : List ℕ) (some : 0 < length t) where
     where
       go : (b : Bool) → eqb c 46 ≡ b
           → decimal_width
-          (elim b as (λ _. Decimal) [ true ↦ pointed 0 ds (front is_digit r) | false ↦ judged ds [] (0 + length ds) ])
+          (elim b as (λ _. Result (Parsed Float) NoDecimal) [ true ↦ pointed 0 ds (front is_digit r) | false ↦ judged ds [] (0 + length ds) ])
           ≡ length t
           → WholeDecimal t
       go true e p = a_point r (front is_digit r) (ap (λ (x : ℕ). x ∷ r) (sym (eqb-true c 46 e)) ∙ q) refl h p

@@ -11,12 +11,11 @@ ghost use Rattle.number.specs.Digits.{is_digit, value_from};
 ghost use Rattle.number.specs.Decimal.{judged, pointed, decimal_at};
 
 use crate::digits::{digit, is_digit, run_end};
+use text::parsed::Parsed;
 
-// What a place of a text holds: a number with the place after it, no decimal, or one of more than 18
-// digits.
+// Why no decimal is read at a place: none stands there, or one of more than 18 digits.
 #[derive(Clone, Copy)]
-pub enum Decimal {
-    Value(f32, usize),
+pub enum NoDecimal {
     Unreadable,
     TooLong,
 }
@@ -165,19 +164,22 @@ fn ten_to(k: usize) -> u64
 }
 
 // The number whose digits stand from i up to `end`.
-fn whole_number(s: &[u8], i: usize, end: usize) -> Decimal
+fn whole_number(s: &[u8], i: usize, end: usize) -> Result<Parsed<f32>, NoDecimal>
     requires { end ≡ i + length (front is_digit (drop i s.now)) }
     ensures { result ≡ judged (front is_digit (drop i s.now)) [] end }
 {
     if end - i > 18 {
-        return Decimal::TooLong;
+        return Err(NoDecimal::TooLong);
     }
     let n = run_value(s, i, 0);
-    Decimal::Value(nearest_f32(n, 1), end)
+    Ok(Parsed {
+        value: nearest_f32(n, 1),
+        next: end,
+    })
 }
 
 // The number whose digits stand from i up to the point, and from there up to `end`.
-fn with_part(s: &[u8], i: usize, point: usize, end: usize) -> Decimal
+fn with_part(s: &[u8], i: usize, point: usize, end: usize) -> Result<Parsed<f32>, NoDecimal>
     requires { (point ≡ i + length (front is_digit (drop i s.now)))
         × (end ≡ point + 1 + length (front is_digit (drop (point + 1) s.now))) }
     ensures { result ≡ judged (front is_digit (drop i s.now)) (front is_digit (drop (point + 1) s.now)) end }
@@ -185,37 +187,40 @@ fn with_part(s: &[u8], i: usize, point: usize, end: usize) -> Decimal
     let from = point + 1;
     let k = end - from;
     if point - i > 18 {
-        return Decimal::TooLong;
+        return Err(NoDecimal::TooLong);
     }
     if k > 18 - (point - i) {
-        return Decimal::TooLong;
+        return Err(NoDecimal::TooLong);
     }
     let n = run_value(s, i, 0);
     let n = run_value(s, from, n);
     let d = ten_to(k);
-    Decimal::Value(nearest_f32(n, d), end)
+    Ok(Parsed {
+        value: nearest_f32(n, d),
+        next: end,
+    })
 }
 
 // The number that has digits from i up to the point: what follows the point must be digits too.
-fn fraction(s: &[u8], i: usize, point: usize) -> Decimal
+fn fraction(s: &[u8], i: usize, point: usize) -> Result<Parsed<f32>, NoDecimal>
     requires { (point ≡ i + length (front is_digit (drop i s.now))) × (point < length s.now) }
     ensures { result ≡ pointed i (front is_digit (drop i s.now)) (front is_digit (drop (point + 1) s.now)) }
 {
     let from = point + 1;
     let end = run_end(s, from);
     if end == from {
-        return Decimal::Unreadable;
+        return Err(NoDecimal::Unreadable);
     }
     with_part(s, i, point, end)
 }
 
 // The decimal at place i of s, and the place after it.
-pub fn eat_float(s: &[u8], i: usize) -> Decimal
+pub fn eat_float(s: &[u8], i: usize) -> Result<Parsed<f32>, NoDecimal>
     ensures { result ≡ decimal_at s.now i }
 {
     let point = run_end(s, i);
     if point == i {
-        return Decimal::Unreadable;
+        return Err(NoDecimal::Unreadable);
     }
     if point >= s.len() {
         return whole_number(s, i, point);

@@ -3,14 +3,10 @@
 
 ghost use Rattle.std.specs.Prelude.{◌≡◌, ◌+◌, ◌-◌, length, drop};
 ghost use Rattle.text.specs.Fronts.{front};
+ghost use Rattle.text.specs.Parsed.{parsed};
 ghost use Rattle.number.specs.Digits.{is_digit, int_at};
 
-// What a place of a text holds: a number with the place after its last digit, or none.
-#[derive(Clone, Copy)]
-pub enum Int {
-    Number(u64, usize),
-    Absent,
-}
+use text::parsed::Parsed;
 
 // Whether b is one of the ten digits.
 pub(crate) fn is_digit(b: u8) -> bool
@@ -50,7 +46,7 @@ pub(crate) fn run_end(s: &[u8], i: usize) -> usize
 
 // The number at place i of s, if its value is at most `limit`: leading zeros are read, and where the
 // run is absent or over the limit no digit is.
-pub fn eat_int(s: &[u8], i: usize, limit: u64) -> Int
+pub fn eat_int(s: &[u8], i: usize, limit: u64) -> Option<Parsed<u64>>
     ensures { result ≡ int_at limit s.now i }
 {
     let mut at = i;
@@ -60,10 +56,10 @@ pub fn eat_int(s: &[u8], i: usize, limit: u64) -> Int
         if is_digit(b) {
             let d = digit(b);
             if d > limit {
-                return Int::Absent;
+                return None;
             }
             if v > (limit - d) / 10 {
-                return Int::Absent;
+                return None;
             }
             v = v * 10 + d;
             at += 1;
@@ -75,11 +71,11 @@ pub fn eat_int(s: &[u8], i: usize, limit: u64) -> Int
 }
 
 // The answer for the digits from i up to `at`, whose value is v.
-fn found(i: usize, at: usize, v: u64) -> Int
-    ensures { (at ≡ i → result ≡ Int.Absent) × ((at ≡ i → ⊥) → result ≡ Int.Number v at) }
+fn found(i: usize, at: usize, v: u64) -> Option<Parsed<u64>>
+    ensures { (at ≡ i → result ≡ None) × ((at ≡ i → ⊥) → result ≡ Some (parsed v at)) }
 {
     if at == i {
-        return Int::Absent;
+        return None;
     }
-    Int::Number(v, at)
+    Some(Parsed { value: v, next: at })
 }
