@@ -2,7 +2,7 @@
 -- of a run keep this, and cite how it goes on and stops. Assumes nothing.
 use mathlib.Core.Path.{◌≡◌, refl, ap, ◌∙◌}
 use mathlib.Core.Bool.{Bool, true, false}
-use Prim.Native.Nat.{ℕ, zero, suc, ◌+◌, ◌-◌, ◌≤◌, ◌<◌}
+use Prim.Native.Nat.{ℕ, zero, suc, ◌+◌, ◌-◌, ◌≤◌, ◌<◌, max}
 use native.Mathlib.Omega.{arith}
 use lib.ListN.{length, drop, get_or}
 use lib.Seq.{drop-drop}
@@ -29,6 +29,12 @@ module _ (p : ℕ → Bool) (s : List ℕ) (i at : ℕ) (w : Walk p s i at) wher
   -- there is no next byte
   pub walk_end : length s ≤ at → at ≡ i + length (front p (drop i s))
   walk_end h = omega (arith, ap length (front_end p s at h))
+
+  -- where a walk that goes on as long as there are bytes ends: at the text's end, or where it began past that
+  pub walk_past : length s ≤ at → i ≤ at → (i ≤ length s → at ≤ length s) → max i (length s) ≡ i + length (front p (drop i s))
+  walk_past h o k =
+      let past : length s ≤ i → length (front p (drop i s)) ≡ 0 = λ b. ap length (front_end p s i b) in
+      grind (arith, w.place, ap length (front_end p s at h), past, k)
 
 -- ---- a place inside a front
 

@@ -5,17 +5,14 @@ ghost use Rattle.std.specs.Prelude.{◌≡◌, ◌+◌, length, drop};
 ghost use Rattle.text.specs.Blanks.{is_blank, is_ink};
 ghost use Rattle.text.specs.Fronts.{front};
 
+use crate::runs::run_end;
+
 // Whether b is a space, tab, LF, VT, FF or CR.
+#[tactic(auto, unfolding(crate::specs::Blanks::is_blank))]
 pub fn is_blank(b: u8) -> bool
     ensures { result ≡ is_blank b }
 {
-    if b == 32 {
-        return true;
-    }
-    if b < 9 {
-        return false;
-    }
-    b <= 13
+    matches!(b, b' ' | b'\t'..=b'\r')
 }
 
 // The place after the blanks that stand at i: i itself where there is none. In `a  b` the blanks at
@@ -23,30 +20,14 @@ pub fn is_blank(b: u8) -> bool
 pub fn blanks_end(s: &[u8], i: usize) -> usize
     ensures { result ≡ i + length (front is_blank (drop i s.now)) }
 {
-    let mut at = i;
-    while at < s.len() {
-        let b = s[at];
-        if is_blank(b) {
-            at += 1;
-        } else {
-            return at;
-        }
-    }
-    at
+    run_end(s, i, |b| is_blank(b))
 }
 
 // The place after the bytes at i that are no blanks: i itself where there is none. In `@i c` the
 // name at 0 ends at 2.
+#[tactic(auto, unfolding(crate::specs::Blanks::is_ink))]
 pub fn ink_end(s: &[u8], i: usize) -> usize
     ensures { result ≡ i + length (front is_ink (drop i s.now)) }
 {
-    let mut end = i;
-    while end < s.len() {
-        let b = s[end];
-        if is_blank(b) {
-            return end;
-        }
-        end += 1;
-    }
-    end
+    run_end(s, i, |b| !is_blank(b))
 }

@@ -7,25 +7,15 @@ ghost use Rattle.text.specs.Characters.{starts_with, same};
 pub fn stands_at(s: &[u8], i: usize, b: u8) -> bool
     ensures { result ≡ starts_with b (drop i s.now) }
 {
-    if i >= s.len() {
-        return false;
+    match s.get(i) {
+        Some(at) => *at == b,
+        None => false,
     }
-    s[i] == b
 }
 
 // Whether two texts are the same, byte for byte.
 pub fn same_text(s: &[u8], t: &[u8]) -> bool
     ensures { result ≡ same s.now t.now }
 {
-    if s.len() != t.len() {
-        return false;
-    }
-    let mut at = 0;
-    while at < s.len() {
-        if s[at] != t[at] {
-            return false;
-        }
-        at += 1;
-    }
-    true
+    s == t
 }

@@ -6,3 +6,4 @@
 pub mod blanks;
 pub mod characters;
 pub mod parsed;
+pub mod runs;
