@@ -9,9 +9,10 @@ use native.Mathlib.Omega.{arith}
 use lib.Dec.{ltb, lit<}
 use lib.ListN.{length, get_or, length-append}
 use borrow.Author.Tests.{lt-ltb, le-ltb, ltb-true, ltb-false, le-leb}
+use Rattle.std.specs.Prelude.{Some}
+use Rattle.text.specs.Parsed.{parsed}
 use Rattle.text.specs.Quoted.{bytes}
 use Rattle.text.proofs.Passes.{Passes, passed_front}
-use Rattle.number.specs.declared.digits.Int.TheVariants.{Number}
 use Rattle.number.specs.Digits.{is_digit, value_from, int_of, int_at}
 use Rattle.number.proofs.Runs.{value_append}
 use Rattle.refusal.specs.Line.{last_digit, digits_in, numeral, refused_line}
@@ -122,17 +123,18 @@ back : (most n : ℕ) → n < most → Back n
 back zero n h = absurd (omega arith)
 back (suc most) n h = small n (λ l. back_one n l) (λ l. back_more n l (back most (n / 10) (omega arith)))
 
-run_read : (limit n : ℕ) (ds : List ℕ) → 0 < length ds → value_from 0 ds ≡ n → n ≤ limit → int_of limit 0 ds ≡ Number n (length ds)
+run_read : (limit n : ℕ) (ds : List ℕ) → 0 < length ds → value_from 0 ds ≡ n → n ≤ limit → int_of limit 0 ds ≡ Some (parsed n (length ds))
 unfolding int_of
 run_read limit n [] l e h = absurd (omega arith)
 run_read limit n (d ∷ ds) l e h = rw (le-leb (value_from 0 (d ∷ ds)) limit (omega (arith, e)), int_of)
-    (ap (λ (v : ℕ). Number v (0 + suc (length ds))) e ∙ ap (Number n) (let z : 0 + suc (length ds) ≡ suc (length ds) = omega arith in z))
+    (ap (λ (v : ℕ). Some (parsed v (0 + suc (length ds)))) e
+    ∙ ap (λ (k : ℕ). Some (parsed n k)) (let z : 0 + suc (length ds) ≡ suc (length ds) = omega arith in z))
 
 some_digits : (n : ℕ) → 0 < length (numeral n)
 some_digits n = small n (λ l. omega (arith, length_one n l)) (λ l. omega (arith, length_more n l))
 
 -- the reader of digit runs reads a numeral back as its number, to its end
-pub numeral_read : (limit n : ℕ) → n ≤ limit → int_at limit (numeral n) 0 ≡ Number n (length (numeral n))
+pub numeral_read : (limit n : ℕ) → n ≤ limit → int_at limit (numeral n) 0 ≡ Some (parsed n (length (numeral n)))
 unfolding int_at
 numeral_read limit n h =
     let b = back (suc n) n (omega arith) in
