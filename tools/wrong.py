@@ -70,7 +70,10 @@ def bodies(text):
     """The functions of a source, each with its type before it; whether it is public, and from which line to which its body stands."""
     kind, name, indent, public, start = [], None, "", False, None
     for number, line in enumerate(text.splitlines()):
-        if found := re.match(r"impl (\w+)", line):
+        if found := re.match(r"impl(?:<[^{]*?>)? (\w+)(?:<(\w+)>)? for (\w+)", line):
+            # The prover names an `impl` by the type, the trait and what the trait is at.
+            kind = ["".join(word[:1].upper() + word[1:] for word in (found[3], found[1], found[2] or ""))]
+        elif found := re.match(r"impl(?:<[^{]*?>)? (\w+)", line):
             kind = [found[1]]
         elif found := re.match(r'( *)(pub )?(?:pub\(crate\) )?(?:extern "C" )?fn (\w+)', line):
             indent, public, name, start = found[1], bool(found[2]), found[3], number + 1 if line.endswith("{") else None
@@ -90,7 +93,8 @@ def module_of(file):
 def proof_of(texts, file, *function):
     """The folder of a function's proof, that of a method being with its type, or of the cycle of calls that it is in."""
     for kind in function[:-1]:
-        file = next(name for name, text in texts.items() if name.startswith("src/") and re.search(rf"^(?:pub )?(?:struct|enum) {kind}\b", text, re.MULTILINE))
+        declares = re.compile(rf"^(?:pub )?(?:pub\(crate\) )?(?:struct|enum) {kind}\b", re.MULTILINE)
+        file = next((name for name, text in texts.items() if name.startswith("src/") and declares.search(text)), file)
     above = "/".join(["proofs", *module_of(file), *function[:-1]])
     cycle = re.search(rf"#\[cycle\((\w+)\)\]\n(?: *#\[.*\n)* *(?:pub )?(?:pub\(crate\) )?fn {function[-1]}\b", texts.get(file, ""))
     # A function that calls itself is a cycle, too.
@@ -124,9 +128,16 @@ def goals_found_false(said):
     return found
 
 
+def without_closure(path, joint):
+    """The path of a function for that of a closure in it, which the prover puts below `fn`; any other path as it is."""
+    before, closure, behind = path.partition(f"{joint}fn{joint}")
+    return before + joint + behind.rpartition(joint)[0] if closure else path
+
+
 def folder_of(texts, path):
-    """The folder of the proof of a function by its path."""
-    *module, name = path.split("::")
+    """The folder of the proof of a function by its path. A closure counts as its function, and so does a function that is passed as one."""
+    path = path.replace("++", "::").partition("::")[2] if "++" in path else path
+    *module, name = without_closure(path.partition("+")[0], "::").split("::")
     kinds = [it for it in module if it[:1].isupper()]
     file = "/".join(["src", *(it for it in module if it not in kinds)]) + ".rt"
     return proof_of(texts, file if module else "src/lib.rt", *kinds, name)
@@ -135,7 +146,8 @@ def folder_of(texts, path):
 def failed_facts(said, texts):
     """The files below a crate in which a fact failed, from what the prover said of the crate with an edit put in; `texts` are the crate's files without it.
     A goal that is found false counts where it has no answer in that proof, as one that `search` proves, or that is new."""
-    found = {error[1] for error in ERROR.finditer(said) if FACT.match(error[2])} | set(NOT_FOUND.findall(said))
+    answers = {error[1] for error in ERROR.finditer(said) if FACT.match(error[2])} | set(NOT_FOUND.findall(said))
+    found = {f"{without_closure(folder, '/')}/{file}" for folder, _, file in (it.rpartition("/") for it in answers)}
     for path, goals in goals_found_false(said).items():
         answers = folder_of(texts, path) + "Answers.antt"
         if not set(goals) <= set(ANSWER.findall(texts.get(answers, ""))):
