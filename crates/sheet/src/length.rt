@@ -4,19 +4,13 @@ ghost use Rattle.std.specs.Prelude.{◌≡◌, ◌≤◌, max};
 ghost use Rattle.tone.specs.Time.{length_of};
 ghost use Rattle.sheet.specs.Lengths.{samples_of};
 
-use tone::time::{Length, sec_to_len};
+use tone::time::sec_to_len;
 
 // How many samples so many seconds take: none where they have no number of samples that one note may have.
 pub fn samples(seconds: f32, rate: u32) -> u64
     ensures { (result ≡ samples_of (length_of rate seconds)) × (result ≤ 16777216) }
 {
-    let length = sec_to_len(seconds, rate);
-    match length {
-        Length::Samples(n) => n,
-        Length::NotANumber => 0,
-        Length::Negative => 0,
-        Length::TooMany => 0,
-    }
+    sec_to_len(seconds, rate).unwrap_or(0)
 }
 
 // The larger of two ends.
