@@ -1,10 +1,9 @@
 -- How a time is counted in samples, in laws that code cites. A ceiling is the least whole number that is at least a fraction, so three tests of
 -- floats single out the times that have no number of samples, and one more says whether the cut-off fraction adds a sample. Assumes nothing.
-use Rattle.std.proofs.Common.{◌≡◌, ℕ, ◌+◌, ◌-◌, ◌*◌, ◌/◌, ◌<◌, ◌≤◌, true, false, T, ℤ, pos, sym, refl, ap, ◌∙◌, subst, true≢false, le_of_suc-le-suc, mul-le-mul_right, div-lt_iff_lt-mul, le_antisymm, lt_of_mul-lt-mul_right, mul-le-mul_left, div-mul-le_self, le_of_mul-le-mul_right, arith, le→leb, ltb-false, ltb-true, eq-eqb, ne_eqb, le-leb, Ok, Err}
+use Rattle.std.proofs.Common.{◌≡◌, ℕ, ◌+◌, ◌-◌, ◌*◌, ◌/◌, ◌<◌, ◌≤◌, true, false, T, ℤ, pos, sym, refl, ap, ◌∙◌, true≢false, le_of_suc-le-suc, mul-le-mul_right, div-lt_iff_lt-mul, le_antisymm, lt_of_mul-lt-mul_right, mul-le-mul_left, div-mul-le_self, le_of_mul-le-mul_right, arith, le→leb, ltb-false, ltb-true, eq-eqb, ne_eqb, le-leb, Ok, Err}
 use native.Mathlib.Nat.{lt-div-mul-add}
-use lib.Ieee.{Float, nan, inf, fin, binary32, up, down, lt, ne, of_int, to_unsigned}
+use lib.Ieee.{Float, nan, inf, fin, binary32, up, down, lt, is_nan, of_int, to_unsigned}
 use lib.Ieee.Fits.{down_pos, up_pos}
-use lib.Ieee.Compare.{differs_from_itself}
 use lib.Ieee.Positive.{first_pos}
 use lib.Ieee.Exact.{HasValue}
 use lib.Ieee.Back.{round_whole}
@@ -44,10 +43,12 @@ ceiling_more n d p h = le_antisymm (ceiling_le n d (n / d + 1) p (omega (arith, 
 
 -- ---- the tests for times that have no number of samples
 
--- `x != x` holds of a NaN alone
-pub counted_nan : (x : Float) → ne x x ≡ true → Err NotANumber ≡ count_of x
-unfolding count_of
-counted_nan x t = rw (differs_from_itself x (subst T (sym t) tt))
+-- a NaN
+pub counted_nan : (x : Float) → is_nan x ≡ true → Err NotANumber ≡ count_of x
+unfolding count_of is_nan
+counted_nan nan t = refl
+counted_nan (inf s) t = cc
+counted_nan (fin s m e) t = cc
 
 -- `x < 0.0` of what is below zero, and not of -0.0
 pub counted_negative : (x : Float) → lt x plus_zero ≡ true → Err Negative ≡ count_of x
@@ -79,9 +80,9 @@ Within (fin true m e) = m ≡ 0
 Within (fin false m e) = m * up e ≤ note_most * down e
 
 -- the three tests fail
-pub within_by_tests : (x : Float) → ne x x ≡ false → lt x plus_zero ≡ false → lt (fin false 1 (pos 24)) x ≡ false → Within x
-unfolding lt ne
-within_by_tests nan u s t = absurd (true≢false u)
+pub within_by_tests : (x : Float) → is_nan x ≡ false → lt x plus_zero ≡ false → lt (fin false 1 (pos 24)) x ≡ false → Within x
+unfolding lt is_nan
+within_by_tests nan u s t = cc
 within_by_tests (inf true) u s t = absurd (true≢false s)
 within_by_tests (inf false) u s t = absurd (true≢false t)
 within_by_tests (fin true m e) u s t = omega (arith, ltb-false, mul-le-mul_left m (up_pos e))

@@ -48,3 +48,9 @@ unfolding frequencies
 looked_up zero s i k l e = absurd (omega (arith, l))
 looked_up (suc n) s zero k l e = ap frequency_of (first s k e)
 looked_up (suc n) s (suc i) k l e = looked_up n (suc s) i k (omega arith) (omega (arith, e))
+
+-- there are as many as are asked for
+pub frequencies_count : (n s : ℕ) → length (frequencies n s) ≡ n
+unfolding frequencies
+frequencies_count zero s = refl
+frequencies_count (suc n) s = ap suc (frequencies_count n (suc s))

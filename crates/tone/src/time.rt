@@ -12,6 +12,9 @@ pub enum Uncounted {
     TooMany,
 }
 
+// The most samples that one note may have, of which an f32 holds each number up to there.
+const NOTE_MOST: f32 = 16777216.0;
+
 // The seconds that a note of the given value takes at a tempo, with a denominator and perhaps a dot.
 pub fn duration(tempo: u32, denom: u32, value: u32, dotted: bool) -> f32
     ensures { result ≡ duration_of tempo denom value dotted }
@@ -19,23 +22,20 @@ pub fn duration(tempo: u32, denom: u32, value: u32, dotted: bool) -> f32
     let beat = 60.0 / std::num::nearest_u32_to_f32(tempo);
     let share = std::num::nearest_u32_to_f32(denom) / std::num::nearest_u32_to_f32(value);
     let d = beat * share;
-    if dotted {
-        return d * 1.5;
-    }
-    d
+    if dotted { d * 1.5 } else { d }
 }
 
 // A time counted in samples, rounded up to a whole number of them.
 fn count(samples: f32) -> Result<u64, Uncounted>
     ensures { result ≡ count_of samples }
 {
-    if samples != samples {
+    if samples.is_nan() {
         return Err(Uncounted::NotANumber);
     }
     if samples < 0.0 {
         return Err(Uncounted::Negative);
     }
-    if samples > 16777216.0 {
+    if samples > NOTE_MOST {
         return Err(Uncounted::TooMany);
     }
     let whole = std::num::truncating_f32_to_u64(samples);

@@ -5,10 +5,10 @@ use Rattle.tone.specs.Power.{step}
 use Rattle.tone.proofs.Powers.{frequency_below, frequency_from}
 use Rattle.tone.proofs.power.by_power.Goals as goal
 
-pub returns-then-s-lt57 : goal.returns-then-s-lt57
+pub returns-then-s-lt-A4 : goal.returns-then-s-lt-A4
 unfolding of_bits round step
-returns-then-s-lt57 c = rw c.power.ensures (frequency_below _ c.if-s-lt57.true)
+returns-then-s-lt-A4 c = rw c.power.ensures (frequency_below _ c.if-s-lt-A4.true)
 
 pub returns : goal.returns
 unfolding of_bits round step
-returns c = rw c.power-2.ensures (frequency_from _ c.if-s-lt57.false)
+returns c = rw c.power-2.ensures (frequency_from _ c.if-s-lt-A4.false)

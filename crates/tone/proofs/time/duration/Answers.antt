@@ -9,7 +9,7 @@ unfolding of_bits duration_of
 returns-then-dotted c =
     rw (c.nearest_u32_to_f32-beat.ensures, c.nearest_u32_to_f32.ensures, c.nearest_u32_to_f32-2.ensures, c.if-dotted.true)
 
-pub returns : goal.returns
+pub returns-else-dotted : goal.returns-else-dotted
 unfolding of_bits duration_of
-returns c =
+returns-else-dotted c =
     rw (c.nearest_u32_to_f32-beat.ensures, c.nearest_u32_to_f32.ensures, c.nearest_u32_to_f32-2.ensures, c.if-dotted.false)
