@@ -1,20 +1,13 @@
--- `to_bits` is `to_bits`: what differs from itself is NaN, and what does not is none. Assumes nothing.
-use mathlib.Core.Path.{◌≡◌, sym, ◌∙◌, subst}
-use mathlib.Core.Bool.{false, not}
-use lib.Dec.{T}
-use lib.Ieee.{Float, nan, inf, fin, is_nan, ne, to_bits}
-use lib.Ieee.Compare.{differs_from_itself, nan_differs}
+-- `to_bits` is `to_bits`: a NaN has the one pattern that is written for it. Assumes nothing.
+use Rattle.std.proofs.Common.{◌≡◌, true, refl}
+use lib.Ieee.{Float, nan, inf, fin, is_nan, binary32, to_bits}
 use Rattle.fields.proofs.float.to_bits.Goals as goal
 
-no_nan : (x : Float) → ne x x ≡ false → T (not (is_nan x))
-unfolding is_nan
-no_nan nan e = subst T (sym nan_differs ∙ e) tt
-no_nan (inf s) e = tt
-no_nan (fin s m d) e = tt
+of_nan : (x : Float) → is_nan x ≡ true → 0x7fc0_0000 ≡ to_bits binary32 x
+unfolding is_nan to_bits
+of_nan nan e = refl
+of_nan (inf s) e = cc
+of_nan (fin s m d) e = cc
 
-pub returns-then-x : goal.returns-then-x
-unfolding to_bits
-returns-then-x c = rw (differs_from_itself c.args.x (subst T (sym c.if-x.true) tt))
-
-pub float_to_bits-result : goal.float_to_bits-result
-float_to_bits-result c = no_nan c.args.x c.if-x.false
+pub returns-then-is_nan : goal.returns-then-is_nan
+returns-then-is_nan c = of_nan c.args.x cc

@@ -1,5 +1,5 @@
--- `word` is `word_at`: four bytes, none of which overflows its share. Assumes nothing.
-use native.Mathlib.Omega.{arith}
+-- `word` is `word_at`: `from_le_bytes` of the four bytes. Assumes nothing.
+use Rattle.std.proofs.Common.{arith}
 use Rattle.fields.specs.Word.{word_at}
 use Rattle.fields.proofs.word.word.Goals as goal
 
