@@ -6,41 +6,46 @@ use crate::{build, record, stretch, write};
 use fields::float;
 use instrument::machine::Instrument;
 
+// The kinds of record.
+const START: u32 = 1;
+
+const OPERATOR: u32 = 2;
+
+const STACK: u32 = 3;
+
+const COUNT: u32 = 4;
+
+const VALUE: u32 = 5;
+
+const STRETCH: u32 = 6;
+
+const STRETCHES: u32 = 7;
+
 // The value at a time: frequency, duration and time in fields 1 to 3.
 fn value(held: Instrument, s: &[u8])
     requires { length s.now ≡ 32 }
 {
-    let f = record::float(s, 1);
-    let d = record::float(s, 2);
-    let t = record::float(s, 3);
-    write::number(float::to_bits(held.eval(f, d, t)));
+    let height = held.eval(
+        record::float(s, 1),
+        record::float(s, 2),
+        record::float(s, 3),
+    );
+    write::number(float::to_bits(height));
 }
 
 // Does what a record asks for, and gives the instrument afterwards. A kind that there is not does nothing.
 pub fn to(held: Instrument, s: &[u8]) -> Instrument
     requires { length s.now ≡ 32 }
 {
-    let kind = record::word(s, 0);
-    if kind == 1 {
-        return build::silent();
-    }
-    if kind == 2 {
-        return build::with_operator(held, s);
-    }
-    if kind == 3 {
-        return build::with_stack(held, s);
-    }
-    if kind == 4 {
-        return build::with_count(held, s);
-    }
-    if kind == 5 {
-        value(held, s);
-    }
-    if kind == 6 {
-        stretch::one(held, s);
-    }
-    if kind == 7 {
-        stretch::many(held, s);
+    match record::word(s, 0) {
+        START => return build::silent(),
+        OPERATOR => return build::with_operator(held, s),
+        STACK => return build::with_stack(held, s),
+        COUNT => return build::with_count(held, s),
+        VALUE => value(held, s),
+        STRETCH => stretch::one(held, s),
+        STRETCHES => stretch::many(held, s),
+        _ => (),
     }
     held
 }

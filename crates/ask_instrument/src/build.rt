@@ -12,10 +12,9 @@ pub fn silent() -> Instrument {
     let slot = Slot {
         command: Command::Stack(0),
     };
-    let commands = [slot; 64];
     Instrument {
         release: 0.0,
-        commands,
+        commands: [slot; 64],
         count: 0,
     }
 }
@@ -24,38 +23,25 @@ pub fn silent() -> Instrument {
 fn operator(s: &[u8]) -> Operator
     requires { length s.now ≡ 32 }
 {
-    let amplitude = record::float(s, 1);
-    let freqratio = record::float(s, 2);
-    let attack = record::float(s, 3);
-    let decay = record::float(s, 4);
-    let sustain = record::float(s, 5);
-    let release = record::float(s, 6);
-    let feedback = record::word(s, 7);
     Operator {
-        amplitude,
-        freqratio,
-        attack,
-        decay,
-        sustain,
-        release,
-        feedback,
+        amplitude: record::float(s, 1),
+        freqratio: record::float(s, 2),
+        attack: record::float(s, 3),
+        decay: record::float(s, 4),
+        sustain: record::float(s, 5),
+        release: record::float(s, 6),
+        feedback: record::word(s, 7),
     }
 }
 
 // The instrument with a command more, if it has room.
-fn with(held: Instrument, command: Command) -> Instrument {
+fn with(mut held: Instrument, command: Command) -> Instrument {
     let at = held.count;
-    if at >= 64 {
-        return held;
+    if let Some(slot) = held.commands.get_mut(at) {
+        *slot = Slot { command };
+        held.count += 1;
     }
-    let mut commands = held.commands;
-    let slot = Slot { command };
-    commands[at] = slot;
-    Instrument {
-        release: 0.0,
-        commands,
-        count: at + 1,
-    }
+    held
 }
 
 // Adds the operator of a record.
@@ -76,10 +62,8 @@ pub fn with_stack(held: Instrument, s: &[u8]) -> Instrument
 pub fn with_count(held: Instrument, s: &[u8]) -> Instrument
     requires { length s.now ≡ 32 }
 {
-    let commands = held.commands;
     Instrument {
-        release: 0.0,
-        commands,
         count: record::long(s, 1),
+        ..held
     }
 }

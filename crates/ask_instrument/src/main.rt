@@ -15,49 +15,34 @@ use instrument::machine::Instrument;
 // Standard input.
 const STDIN_FILENO: i32 = 0;
 
-// The instrument after a block of records, and whether the input may have more.
-#[derive(Clone, Copy)]
-struct Turn {
-    held: Instrument,
-    more: bool,
-}
+// The bytes of a record.
+const RECORD: usize = 32;
 
 // Answers every whole record of a block.
 fn answer_all(block: &[u8], start: Instrument) -> Instrument {
     let mut held = start;
-    let n = block.len() / 32;
-    let mut i: usize = 0;
-    while i < n {
-        let from = i * 32;
-        let end = from + 32;
-        held = answer::to(held, &block[from..end]);
-        i += 1;
+    for record in block.chunks_exact(RECORD) {
+        held = answer::to(held, record);
     }
     held
 }
 
-// Reads up to a block and answers it. A record that the input's end cuts short gets no answer.
-fn answer_block(held: Instrument) -> Turn {
+// Reads up to a block and answers it, and gives the instrument afterwards where the input may have more. A record that the input's
+// end cuts short gets no answer.
+fn answer_block(held: Instrument) -> Option<Instrument> {
     let mut block = io::large_buffer();
     let n = io::read_full(STDIN_FILENO, &mut block);
     let next = answer_all(&block[..n], held);
-    Turn {
-        held: next,
-        more: n == 65536,
-    }
+    (n == block.len()).then_some(next)
 }
 
-// A proved loop has to end, and nothing says that the input does. So the loop counts its turns down,
-// from a number that no run uses up.
+// A proved loop has to end, and nothing says that the input does. So the loop has as many turns as no run uses up.
 fn main() {
     let mut held = build::silent();
-    let mut turns = u64::MAX;
-    while turns > 0 {
-        let turn = answer_block(held);
-        if !turn.more {
+    for _ in 0..u64::MAX {
+        let Some(next) = answer_block(held) else {
             return;
-        }
-        held = turn.held;
-        turns -= 1;
+        };
+        held = next;
     }
 }

@@ -9,17 +9,14 @@ use fields::float;
 pub fn word(s: &[u8], k: usize) -> u32
     requires { (length s.now ≡ 32) × (k < 8) }
 {
-    let i = k * 4;
-    fields::word::word(s, i)
+    fields::word::word(s, k * 4)
 }
 
 // Fields k and k + 1 as one number.
 pub fn long(s: &[u8], k: usize) -> usize
     requires { (length s.now ≡ 32) × (k < 7) }
 {
-    let low = word(s, k) as usize;
-    let high = word(s, k + 1) as usize;
-    low + high * 0x1_0000_0000
+    word(s, k) as usize + word(s, k + 1) as usize * 0x1_0000_0000
 }
 
 // Field k as the bits of a float.

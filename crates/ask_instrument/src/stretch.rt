@@ -21,55 +21,39 @@ struct Asked {
 fn read(s: &[u8]) -> Asked
     requires { length s.now ≡ 32 }
 {
-    let amplitude = record::float(s, 1);
-    let f = record::float(s, 2);
-    let d = record::float(s, 3);
-    let rate = record::word(s, 4);
-    let first = record::word(s, 5) as usize;
-    let number = record::word(s, 6);
     Asked {
-        amplitude,
-        f,
-        d,
-        rate,
-        first,
-        number,
+        amplitude: record::float(s, 1),
+        f: record::float(s, 2),
+        d: record::float(s, 3),
+        rate: record::word(s, 4),
+        first: record::word(s, 5) as usize,
+        number: record::word(s, 6),
     }
 }
 
-// How long the slice is: at most 512.
+// The most elements that a slice has.
+const MOST: usize = 512;
+
+// How long the slice is.
 fn size(s: &[u8]) -> usize
     requires { length s.now ≡ 32 }
-    ensures { result ≤ 512 }
+    ensures { result ≤ MOST }
 {
-    let n = record::word(s, 7);
-    if n < 512 {
-        return n as usize;
-    }
-    512
-}
-
-// The array that the slice is the front of.
-fn blank() -> [f32; 512]
-    ensures { 512 ≡ length result }
-{
-    [0.0; 512]
+    (record::word(s, 7) as usize).min(MOST)
 }
 
 // What stands in the slice before it is filled: 0, 1/1024, 2/1024 and so on.
 fn prepare(out: &mut [f32]) {
-    let mut x: f32 = 0.0;
-    let mut i: usize = 0;
-    while i < out.len() {
-        out[i] = x;
-        x = x + 0.0009765625;
-        i += 1;
+    let mut next: f32 = 0.0;
+    for x in out.iter_mut() {
+        *x = next;
+        next += 0.0009765625;
     }
 }
 
 // Writes the count, and then the whole slice.
 fn answer(held: Instrument, out: &mut [f32], a: Asked)
-    requires { length out.old ≤ 512 }
+    requires { length out.old ≤ MOST }
 {
     prepare(out);
     let added = a.number as usize;
@@ -83,21 +67,19 @@ pub fn one(held: Instrument, s: &[u8])
     requires { length s.now ≡ 32 }
 {
     let n = size(s);
-    let mut out = blank();
+    let mut out = [0.0; MOST];
     answer(held, &mut out[..n], read(s));
 }
 
 // Stretches one after the other into the same slice, of which only the last is written: a clock is to see
 // the samples and not the writing.
 fn run(held: Instrument, out: &mut [f32], a: Asked)
-    requires { length out.old ≤ 512 }
+    requires { length out.old ≤ MOST }
 {
     let mut first = a.first;
-    let mut left = a.number;
-    while left > 0 {
+    for _ in 0..a.number {
         held.fill(out, a.amplitude, a.f, a.d, a.rate, first, 0);
-        first = std::num::wrapping_add_usize(first, out.len());
-        left -= 1;
+        first = first.wrapping_add(out.len());
     }
     write::floats(out);
 }
@@ -107,6 +89,6 @@ pub fn many(held: Instrument, s: &[u8])
     requires { length s.now ≡ 32 }
 {
     let n = size(s);
-    let mut out = blank();
+    let mut out = [0.0; MOST];
     run(held, &mut out[..n], read(s));
 }

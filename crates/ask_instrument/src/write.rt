@@ -10,9 +10,7 @@ use fields::word::put;
 const STDOUT_FILENO: i32 = 1;
 
 pub fn number(w: u32) {
-    let mut bytes = [0u8; 4];
-    put(&mut bytes, 0, w);
-    io::write_all(STDOUT_FILENO, &bytes);
+    io::write_all(STDOUT_FILENO, &w.to_le_bytes());
 }
 
 // A whole slice, in one call of the system's.
@@ -20,11 +18,8 @@ pub fn floats(xs: &[f32])
     requires { length xs.now ≤ 512 }
 {
     let mut bytes = [0u8; 2048];
-    let mut i: usize = 0;
-    while i < xs.len() {
-        put(&mut bytes, i * 4, float::to_bits(xs[i]));
-        i += 1;
+    for (i, x) in xs.iter().enumerate() {
+        put(&mut bytes, i * 4, float::to_bits(*x));
     }
-    let end = i * 4;
-    io::write_all(STDOUT_FILENO, &bytes[..end]);
+    io::write_all(STDOUT_FILENO, &bytes[..xs.len() * 4]);
 }

@@ -1,5 +1,5 @@
 -- `answer` is safe: the slice keeps its length, and so the count, which is at most that, fits four bytes. Assumes nothing.
-use Rattle.std.proofs.Common.{arith, rules}
+use Rattle.std.proofs.Common.{arith}
 use Rattle.instrument.specs.Fill.{count_from}
 use Rattle.ask_instrument.proofs.stretch.answer.Goals as goal
 
