@@ -3,6 +3,7 @@ use mathlib.Core.Path.{◌≡◌, sym, ap, ap₂, subst, ◌∙◌}
 use mathlib.Core.Bool.{true, false, ◌&&◌}
 use mathlib.Core.List.{List}
 use mathlib.Core.Option.{none, some}
+use Rattle.std.specs.Prelude.{Result, Ok, Err}
 use Prim.Native.Nat.{ℕ, ◌+◌, ◌-◌, ◌*◌, ◌≤◌, ◌<◌, min}
 use native.Mathlib.Omega.{arith}
 use lib.Dec.{leb, ltb, eqb}
@@ -13,9 +14,12 @@ use Rattle.lines.specs.Names.{between, names_in, place_among}
 use Rattle.lines.specs.Tokens.{Named, named_of, name_at, named_by}
 use Rattle.lines.proofs.Places.{between_cut}
 use Rattle.lines.proofs.Named.{named_is, name_within}
+use Rattle.sheet.specs.declared.refusal.Refusal.{Refusal}
+use Rattle.sheet.specs.declared.refusal.Refusal.TheVariants.{Full, MacroIncomplete, MacroTaken}
+use Rattle.sheet.specs.Numbers.{number_of as refusal_number}
 use Rattle.sheet.specs.Refusals.{Outcome, going, refused, ◌>>=◌, ◌>>◌, refuse◌on◌unless◌, refuse◌on◌without◌}
 use Rattle.tables.specs.Named.{Macro, macro_named, macros_in}
-use Rattle.tables.specs.Tables.{is_none, macro_of, macro_line, with_entry, number_of, names_after, bodies_after, line_from, line_end}
+use Rattle.tables.specs.Tables.{is_none, macro_of, macro_line, with_entry, number_of, number_told, names_after, bodies_after, line_from, line_end}
 use Rattle.tables.proofs.Taken.{macros_many, macro_there, macro_absent}
 
 -- ---- where a line's name stands
@@ -56,12 +60,12 @@ module _ (line : ℕ) (s : List ℕ) (from end count : ℕ) (names bodies : List
   outcome = macro_line line s from end count names bodies
 
   -- what an answer and two tables are to be
-  abbrev Said : ℕ → List ℕ → List ℕ → Type 0
-  Said r ns bs = (r ≡ number_of outcome) × ((ns ≡ names_after outcome s from end count names) × (bs ≡ bodies_after outcome line s end count bodies))
+  abbrev Said : Result (Unit {0}) Refusal → List ℕ → List ℕ → Type 0
+  Said r ns bs = (number_told r ≡ number_of outcome) × ((ns ≡ names_after outcome s from end count names) × (bs ≡ bodies_after outcome line s end count bodies))
 
-  refused_said : (n : ℕ) → outcome ≡ refused n line → Said n names bodies
+  refused_said : (why : Refusal) → outcome ≡ refused (refusal_number why) line → Said (Err why) names bodies
   unfolding number_of names_after bodies_after
-  refused_said n e = (
+  refused_said why e = (
     sym (ap number_of e),
     (
       sym (ap (λ (o : Outcome Macro). names_after o s from end count names) e),
@@ -71,7 +75,7 @@ module _ (line : ℕ) (s : List ℕ) (from end count : ℕ) (names bodies : List
 
   going_said : (m : Macro) (ns bs : List ℕ) → outcome ≡ going m
       → ns ≡ with_entry count (line_from s from end + (name_at (between s from end)).from) (line_from s from end + (name_at (between s from end)).end) names
-      → bs ≡ with_entry count (line_end s end) line bodies → Said 0 ns bs
+      → bs ≡ with_entry count (line_end s end) line bodies → Said (Ok tt) ns bs
   unfolding number_of names_after bodies_after
   going_said m ns bs e x y = (
     sym (ap number_of e),
@@ -82,19 +86,19 @@ module _ (line : ℕ) (s : List ℕ) (from end count : ℕ) (names bodies : List
   )
 
   -- tables of another size, or with more
-  unfit : (leb count 64 && (eqb (length names) 128 && eqb (length bodies) 128)) ≡ false → Said 21 names bodies
+  unfit : (leb count 64 && (eqb (length names) 128 && eqb (length bodies) 128)) ≡ false → Said (Err Full) names bodies
   unfolding macro_line
-  unfit e = refused_said 21 (rw (e, macro_line))
+  unfit e = refused_said Full (rw (e, macro_line))
 
-  pub macro_many : 64 < count → Said 21 names bodies
+  pub macro_many : 64 < count → Said (Err Full) names bodies
   macro_many h = unfit (let e = lt-leb count 64 h in rw e)
 
   module _ (few : count ≤ 64) where
-    pub macro_unnamed : (length names ≡ 128 → ⊥) → Said 21 names bodies
+    pub macro_unnamed : (length names ≡ 128 → ⊥) → Said (Err Full) names bodies
     macro_unnamed h = unfit (let e = le-leb count 64 few in let f = ne_eqb (length names) 128 h in rw (e, f))
 
     module _ (ln : length names ≡ 128) where
-      pub macro_bare : (length bodies ≡ 128 → ⊥) → Said 21 names bodies
+      pub macro_bare : (length bodies ≡ 128 → ⊥) → Said (Err Full) names bodies
       macro_bare h =
           unfit
           (let e = le-leb count 64 few in let f = eq-eqb (length names) 128 ln in let g = ne_eqb (length bodies) 128 h in rw (e, f, g))
@@ -119,9 +123,9 @@ module _ (line : ℕ) (s : List ℕ) (from end count : ℕ) (names bodies : List
           named : named_of (between s from end) ≡ named_by (between s begin to) n
           named = sym (ap named_of cut_is) ∙ sym (named_is (between s begin to)) ∙ ap (named_by (between s begin to)) (sym k)
 
-          pub macro_five : n.two ≡ false → Said 5 names bodies
+          pub macro_five : n.two ≡ false → Said (Err MacroIncomplete) names bodies
           unfolding named_by
-          macro_five e = refused_said 5 (outcome_is ∙ of_five line (between s from end) macros (named ∙ rw e))
+          macro_five e = refused_said MacroIncomplete (outcome_is ∙ of_five line (between s from end) macros (named ∙ rw e))
 
           module _ (e : n.two ≡ true) where
             abbrev name : List ℕ
@@ -131,9 +135,9 @@ module _ (line : ℕ) (s : List ℕ) (from end count : ℕ) (names bodies : List
             unfolding named_by
             named_two = named ∙ rw e
 
-            pub macro_taken : ltb (place_among name (names_in s (take (2 * count) names))) count ≡ true → Said 4 names bodies
+            pub macro_taken : ltb (place_among name (names_in s (take (2 * count) names))) count ≡ true → Said (Err MacroTaken) names bodies
             macro_taken t =
-                refused_said 4
+                refused_said MacroTaken
                 (outcome_is
                 ∙ of_taken line (between s from end) macros _ named_two _ (macro_there s names bodies count (omega (arith, few, ln)) (omega (arith, few, lb)) name t))
 
@@ -144,14 +148,14 @@ module _ (line : ℕ) (s : List ℕ) (from end count : ℕ) (names bodies : List
               many : length macros ≡ count
               many = macros_many s names bodies count (omega (arith, few, ln)) (omega (arith, few, lb))
 
-              pub macro_full : 64 ≤ count → Said 21 names bodies
-              macro_full h = refused_said 21 (outcome_is ∙ of_full line (between s from end) macros _ named_two absent (omega (arith, h, many)))
+              pub macro_full : 64 ≤ count → Said (Err Full) names bodies
+              macro_full h = refused_said Full (outcome_is ∙ of_full line (between s from end) macros _ named_two absent (omega (arith, h, many)))
 
               pub macro_going : count < 64 → outcome ≡ going (record { name = name; body = drop n.end (between s begin to); line = line })
               macro_going h = outcome_is ∙ of_new line (between s from end) macros _ named_two absent (omega (arith, h, many))
 
               pub macro_new : count < 64 → (ns bs : List ℕ) → ns ≡ with_entry count (begin + n.from) (begin + n.end) names → bs ≡ with_entry count to line bodies
-                  → Said 0 ns bs
+                  → Said (Ok tt) ns bs
               macro_new h ns bs x y =
                   let w : n ≡ name_at (between s from end) = k ∙ ap name_at cut_is in
                   let b : begin ≡ line_from s from end = q ∙ ap (min from) p in

@@ -1,10 +1,12 @@
 -- The tables of macros and of instruments' names, which grow by a line: "Macro line: 5, 4, 21."; "Instrument header: 3, 21." A table is plain numbers, two for
 -- each entry. Assumes nothing.
-use Rattle.std.specs.Prelude.{Bool, true, false, ◌&&◌, List, ℕ, ◌+◌, ◌*◌, min, leb, ltb, eqb, length, take, set}
+use Rattle.std.specs.Prelude.{Bool, true, false, ◌&&◌, List, ℕ, ◌+◌, ◌*◌, min, leb, ltb, eqb, length, take, set, Result, Ok, Err}
 use Rattle.std.proofs.Math.Option.{Option, none, some}
 use Rattle.lines.specs.Names.{between, names_in}
 use Rattle.lines.specs.Tokens.{named_of, name_at}
 use Rattle.sheet.specs.Capacities.{macros_most, instruments_most}
+use Rattle.sheet.specs.declared.refusal.Refusal.{Refusal}
+use Rattle.sheet.specs.Numbers.{number_of as refusal_number}
 use Rattle.sheet.specs.Refusals.{Outcome, going, refused, ◌>>=◌, ◌>>◌, refuse◌on◌unless◌, refuse◌on◌without◌}
 use Rattle.tables.specs.Named.{Macro, macro_named, place_of, macros_in}
 
@@ -65,6 +67,11 @@ header_line line s from end count names =
 unfoldable pub number_of : {A : Type 0} → Outcome A → ℕ
 number_of (going x) = 0
 number_of (refused n l) = n
+
+-- the same of an answer
+abbrev pub number_told : {A : Type 0} → Result A Refusal → ℕ
+number_told (Ok x) = 0
+number_told (Err why) = refusal_number why
 
 -- the table of names and that of bodies after a macro's line
 unfoldable pub names_after : Outcome Macro → List ℕ → ℕ → ℕ → ℕ → List ℕ → List ℕ

@@ -1,80 +1,38 @@
 -- `header_line` meets its contract: one law for each of its ways out. Assumes nothing.
-use mathlib.Core.Path.{◌≡◌, refl, sym, ◌∙◌}
-use Prim.Native.Nat.{ℕ, ◌+◌, ◌*◌, ◌≤◌, ◌<◌, min}
-use native.Mathlib.Omega.{arith}
+use Rattle.std.proofs.Common.{sym, ◌∙◌, arith}
 use Rattle.tables.proofs.HeaderLines.{header_many, header_unnamed, header_taken, header_full, header_new}
-use borrow.Author.Rules.{rules}
 use Rattle.tables.proofs.table.header_line.Goals as goal
+use Rattle.tables.proofs.table.header_line.Goals.{
+  then-count-gt-INSTRUMENTS-via-then-count-gt-INSTRUMENTS,
+  then-count-gt-INSTRUMENTS-via-else-count-gt-INSTRUMENTS+then-names,
+}
 
--- over plain numbers: places that are cut, and the room for an entry
-cut_order : (begin from to : ℕ) → begin ≡ min from to → begin ≤ to
-cut_order begin from to e = omega arith
+pub returns-then-count-gt-INSTRUMENTS : goal.returns-then-count-gt-INSTRUMENTS
+returns-then-count-gt-INSTRUMENTS c =
+    let a = c.args in
+    elim c.then-count-gt-INSTRUMENTS.branch [
+      | then-count-gt-INSTRUMENTS-via-then-count-gt-INSTRUMENTS w ↦
+          let said = header_many a.source.now a.from a.end a.count a.names.now w.if-count-gt-INSTRUMENTS.true in
+          record { number = said.0; names = said.1 }
+      | then-count-gt-INSTRUMENTS-via-else-count-gt-INSTRUMENTS+then-names w ↦
+          let said = header_unnamed a.source.now a.from a.end a.count a.names.now w.if-count-gt-INSTRUMENTS.false w.if-names.true in
+          record { number = said.0; names = said.1 }
+    ]
 
-known : (count long : ℕ) → count ≤ 32 → long ≡ 64 → 2 * count ≤ long
-known count long h e = omega arith
+pub returns-then-is_taken : goal.returns-then-is_taken
+returns-then-is_taken c =
+    let a = c.args in
+    let said = header_taken a.source.now a.from a.end a.count a.names.now c.if-count-gt-INSTRUMENTS.false c.if-names.false c.min-to.result c.min-begin.result c.min-to.ensures c.min-begin.ensures (sym c.is_taken.ensures ∙ c.if-is_taken.true) in
+    record { number = said.0; names = said.1 }
 
-room : (count long : ℕ) → count < 31 → long ≡ 64 → 2 * count + 1 < long
-room count long h e = omega arith
+pub returns-then-count-ge-INSTRUMENTS : goal.returns-then-count-ge-INSTRUMENTS
+returns-then-count-ge-INSTRUMENTS c =
+    let a = c.args in
+    let said = header_full a.source.now a.from a.end a.count a.names.now c.if-count-gt-INSTRUMENTS.false c.if-names.false c.min-to.result c.min-begin.result c.min-to.ensures c.min-begin.ensures (sym c.is_taken.ensures ∙ c.if-is_taken.false) (omega arith) in
+    record { number = said.0; names = said.1 }
 
-pub returns-then-count-gt32-clause-number : goal.returns-then-count-gt32-clause-number
-returns-then-count-gt32-clause-number c =
-    (header_many c.args.source.now c.args.from c.args.end c.args.count c.args.names.now c.if-count-gt32.true).0
-
-pub returns-then-count-gt32-clause-names : goal.returns-then-count-gt32-clause-names
-returns-then-count-gt32-clause-names c =
-    (header_many c.args.source.now c.args.from c.args.end c.args.count c.args.names.now c.if-count-gt32.true).1
-
-pub returns-then-names-ne64-clause-number : goal.returns-then-names-ne64-clause-number
-returns-then-names-ne64-clause-number c =
-    (header_unnamed c.args.source.now c.args.from c.args.end c.args.count c.args.names.now c.if-count-gt32.false c.if-names-ne64.true).0
-
-pub returns-then-names-ne64-clause-names : goal.returns-then-names-ne64-clause-names
-returns-then-names-ne64-clause-names c =
-    (header_unnamed c.args.source.now c.args.from c.args.end c.args.count c.args.names.now c.if-count-gt32.false c.if-names-ne64.true).1
-
-pub slice_bounds-name-count : goal.slice_bounds-name-count
-slice_bounds-name-count c = cut_order c.least-begin.result _ c.least-to.result c.least-begin.ensures
-
-pub is_taken-requires : goal.is_taken-requires
-is_taken-requires c =
-    known _ _ c.if-count-gt32.false c.if-names-ne64.false
-
-pub shape_of-names-then-is_taken : goal.shape_of-names-then-is_taken
-shape_of-names-then-is_taken c = refl
-
-pub returns-then-is_taken-clause-number : goal.returns-then-is_taken-clause-number
-returns-then-is_taken-clause-number c =
-    (header_taken c.args.source.now c.args.from c.args.end c.args.count c.args.names.now c.if-count-gt32.false c.if-names-ne64.false c.least-to.result c.least-begin.result c.least-to.ensures c.least-begin.ensures
-    (sym c.is_taken.ensures ∙ c.if-is_taken.true)).0
-
-pub returns-then-is_taken-clause-names : goal.returns-then-is_taken-clause-names
-returns-then-is_taken-clause-names c =
-    (header_taken c.args.source.now c.args.from c.args.end c.args.count c.args.names.now c.if-count-gt32.false c.if-names-ne64.false c.least-to.result c.least-begin.result c.least-to.ensures c.least-begin.ensures
-    (sym c.is_taken.ensures ∙ c.if-is_taken.true)).1
-
-pub shape_of-names-then-count-ge31 : goal.shape_of-names-then-count-ge31
-shape_of-names-then-count-ge31 c = refl
-
-pub returns-then-count-ge31-clause-number : goal.returns-then-count-ge31-clause-number
-returns-then-count-ge31-clause-number c =
-    (header_full c.args.source.now c.args.from c.args.end c.args.count c.args.names.now c.if-count-gt32.false c.if-names-ne64.false c.least-to.result c.least-begin.result c.least-to.ensures c.least-begin.ensures
-    (sym c.is_taken.ensures ∙ c.if-is_taken.false) c.if-count-ge31.true).0
-
-pub returns-then-count-ge31-clause-names : goal.returns-then-count-ge31-clause-names
-returns-then-count-ge31-clause-names c =
-    (header_full c.args.source.now c.args.from c.args.end c.args.count c.args.names.now c.if-count-gt32.false c.if-names-ne64.false c.least-to.result c.least-begin.result c.least-to.ensures c.least-begin.ensures
-    (sym c.is_taken.ensures ∙ c.if-is_taken.false) c.if-count-ge31.true).1
-
-pub put_entry-requires : goal.put_entry-requires
-put_entry-requires c =
-    room _ _ c.if-count-ge31.false c.if-names-ne64.false
-
-pub returns-clause-number : goal.returns-clause-number
-returns-clause-number c =
-    (header_new c.args.source.now c.args.from c.args.end c.args.count c.args.names.now c.if-count-gt32.false c.if-names-ne64.false c.least-to.result c.least-begin.result c.least-to.ensures c.least-begin.ensures
-    (sym c.is_taken.ensures ∙ c.if-is_taken.false) c.if-count-ge31.false _ c.put_entry.ensures).0
-
-pub returns-clause-names : goal.returns-clause-names
-returns-clause-names c =
-    (header_new c.args.source.now c.args.from c.args.end c.args.count c.args.names.now c.if-count-gt32.false c.if-names-ne64.false c.least-to.result c.least-begin.result c.least-to.ensures c.least-begin.ensures
-    (sym c.is_taken.ensures ∙ c.if-is_taken.false) c.if-count-ge31.false _ c.put_entry.ensures).1
+pub returns : goal.returns
+returns c =
+    let a = c.args in
+    let said = header_new a.source.now a.from a.end a.count a.names.now c.if-count-gt-INSTRUMENTS.false c.if-names.false c.min-to.result c.min-begin.result c.min-to.ensures c.min-begin.ensures (sym c.is_taken.ensures ∙ c.if-is_taken.false) (omega arith) _ c.put_entry.ensures in
+    record { number = said.0; names = said.1 }
