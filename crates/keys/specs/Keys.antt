@@ -1,17 +1,15 @@
 -- Accidentals and keys, as document 01 has them: "`k` and `#key` take any run of letters a to g, empty or repeating, then `+`, `-` or `=`"; "Absent
 -- accidental: the key's." A note's accidental may also be doubled, as in the Rust. Assumes nothing.
-use Rattle.std.specs.Prelude.{Bool, true, false, ◌&&◌, ◌||◌, List, [], ◌∷◌, ℕ, ◌+◌, ◌-◌, leb, eqb, length, drop}
+use Rattle.std.specs.Prelude.{Option as Answer, Some, None, Bool, true, false, ◌&&◌, ◌||◌, List, [], ◌∷◌, ℕ, ◌+◌, ◌-◌, leb, eqb, length, drop}
 use Rattle.std.proofs.Math.Option.{Option, none, some}
 use Prim.Native.Char.{Char, code}
 use Rattle.text.specs.Characters.{is, starts_with, begins, row_of}
 use Rattle.text.specs.Fronts.{front}
+use Rattle.text.specs.declared.parsed.Parsed.{Parsed}
+use Rattle.text.specs.Parsed.{parsed}
 use Rattle.keys.specs.declared.key.Accidental.{Accidental}
 use Rattle.keys.specs.declared.key.Accidental.TheVariants.{DoubleFlat, Flat, Natural, Sharp, DoubleSharp}
-use Rattle.keys.specs.declared.key.Mark.{Mark}
-use Rattle.keys.specs.declared.key.Mark.TheVariants.{With, Without}
 use Rattle.keys.specs.declared.key.Key.{Key}
-use Rattle.keys.specs.declared.key.KeyAt.{KeyAt}
-use Rattle.keys.specs.declared.key.KeyAt.TheVariants.{Found, Absent}
 
 -- ---- accidentals
 
@@ -48,17 +46,17 @@ accidental_width Sharp = 1
 accidental_width DoubleSharp = 2
 
 -- an accidental at a place, with the place after it
-unfoldable pub mark_of : ℕ → Option Accidental → Mark
+unfoldable pub mark_of : ℕ → Option Accidental → Answer (Parsed Accidental)
 unfolding accidental_width
-mark_of at none = Without
-mark_of at (some a) = With a (at + accidental_width a)
+mark_of at none = None
+mark_of at (some a) = Some (parsed a (at + accidental_width a))
 
 -- the accidental of a key at place `at` of the text s, and that of a note
-unfoldable pub mark_at : List ℕ → ℕ → Mark
+unfoldable pub mark_at : List ℕ → ℕ → Answer (Parsed Accidental)
 unfolding key_accidental mark_of
 mark_at s at = mark_of at (key_accidental (drop at s))
 
-unfoldable pub note_mark_at : List ℕ → ℕ → Mark
+unfoldable pub note_mark_at : List ℕ → ℕ → Answer (Parsed Accidental)
 unfolding note_accidental mark_of
 note_mark_at s at = mark_of at (note_accidental (drop at s))
 
@@ -97,13 +95,13 @@ key_of letters accidental =
     }
 
 -- a run of letters and then an accidental is a key, with the place after it; without the accidental there is none
-unfoldable pub key_from : List ℕ → Mark → KeyAt
+unfoldable pub key_from : List ℕ → Answer (Parsed Accidental) → Answer (Parsed Key)
 unfolding key_of
-key_from letters (With a next) = Found (key_of letters a) next
-key_from letters Without = Absent
+key_from letters (Some mark) = Some (parsed (key_of letters mark.value) mark.next)
+key_from letters None = None
 
 -- "any run of letters a to g, empty or repeating, then `+`, `-` or `=`", at place `at` of the text s
-unfoldable pub key_at : List ℕ → ℕ → KeyAt
+unfoldable pub key_at : List ℕ → ℕ → Answer (Parsed Key)
 unfolding front is_key_letter mark_at key_from
 key_at s at =
     key_from (front is_key_letter (drop at s)) (mark_at s (at + length (front is_key_letter (drop at s))))
@@ -113,18 +111,18 @@ abbrev pub key_rows : Key → List (Char × Bool)
 key_rows k = ("a", k.a) ∷ ("b", k.b) ∷ ("c", k.c) ∷ ("d", k.d) ∷ ("e", k.e) ∷ ("f", k.f) ∷ ("g", k.g) ∷ []
 
 -- an accidental and a key without the place after them
-unfoldable pub accidental_found : Mark → Option Accidental
-accidental_found (With a next) = some a
-accidental_found Without = none
+unfoldable pub accidental_found : Answer (Parsed Accidental) → Option Accidental
+accidental_found (Some mark) = some mark.value
+accidental_found None = none
 
-unfoldable pub key_found : KeyAt → Option Key
-key_found (Found k next) = some k
-key_found Absent = none
+unfoldable pub key_found : Answer (Parsed Key) → Option Key
+key_found (Some key) = some key.value
+key_found None = none
 
 -- where the reading of a text from its start stopped: behind the key, or at the start where there is none
-unfoldable pub key_width : KeyAt → ℕ
-key_width (Found k next) = next
-key_width Absent = 0
+unfoldable pub key_width : Answer (Parsed Key) → ℕ
+key_width (Some key) = key.next
+key_width None = 0
 
 -- whether a letter is in a key: `r` never is
 unfoldable pub in_key : Key → ℕ → Bool

@@ -1,29 +1,27 @@
--- `accidental_at` asks for one character after the other; each law of `Marks` is one answer. Assumes nothing.
-use mathlib.Core.Path.{sym, ◌∙◌}
+-- `accidental_at` asks for one byte after the other; each has a row of the definition's table. Assumes nothing.
+use mathlib.Core.Path.{ap, sym, ◌∙◌}
+use mathlib.Core.Option.{some}
 use native.Mathlib.Omega.{arith}
-use Rattle.text.proofs.Starts.{starts_within}
-use Rattle.keys.proofs.Marks.{mark_plus, mark_minus, mark_equals, mark_none}
+use Rattle.text.specs.Characters.{row_of}
+use Rattle.keys.specs.Keys.{accidental_of}
+use Rattle.keys.proofs.Marks.{no_row, mark_past, mark_none, mark_some}
 use Rattle.keys.proofs.key.accidental_at.Goals as goal
+use Rattle.keys.proofs.key.accidental_at.Goals.{in-43, in-45, in-61}
 
-pub overflow_add-result : goal.overflow_add-result
-overflow_add-result c = let a = c.args in omega (arith, starts_within a.s.now a.i 43 (sym c.stands_at.ensures ∙ c.if-stands_at.true))
+pub returns-in_err-get : goal.returns-in_err-get
+returns-in_err-get c = c.from_residual.ensures ∙ mark_past _ _ c.in_err-get.ensures.lookup.3
 
-pub returns-then-stands_at : goal.returns-then-stands_at
-returns-then-stands_at c = mark_plus _ _ (sym c.stands_at.ensures ∙ c.if-stands_at.true)
-
-pub overflow_add-result-then-stands_at-2 : goal.overflow_add-result-then-stands_at-2
-overflow_add-result-then-stands_at-2 c = let a = c.args in omega (arith, starts_within a.s.now a.i 45 (sym c.stands_at-2.ensures ∙ c.if-stands_at-2.true))
-
-pub returns-then-stands_at-2 : goal.returns-then-stands_at-2
-returns-then-stands_at-2 c = mark_minus _ _ (sym c.stands_at-2.ensures ∙ c.if-stands_at-2.true)
-
-pub overflow_add-result-then-stands_at-3 : goal.overflow_add-result-then-stands_at-3
-overflow_add-result-then-stands_at-3 c = let a = c.args in omega (arith, starts_within a.s.now a.i 61 (sym c.stands_at-3.ensures ∙ c.if-stands_at-3.true))
-
-pub returns-then-stands_at-3 : goal.returns-then-stands_at-3
-returns-then-stands_at-3 c = mark_equals _ _ (sym c.stands_at-3.ensures ∙ c.if-stands_at-3.true)
+pub returns-in_default : goal.returns-in_default
+returns-in_default c =
+    let h = c.in_ok-get.ensures.lookup.3 in
+    mark_none _ _ _ h.0 (h.1 0) (no_row _ (λ e. omega arith) (λ e. omega arith) (λ e. omega arith))
 
 pub returns : goal.returns
+unfolding accidental_of row_of
 returns c =
-    mark_none _ _ (sym c.stands_at.ensures ∙ c.if-stands_at.false) (sym c.stands_at-2.ensures ∙ c.if-stands_at-2.false)
-    (sym c.stands_at-3.ensures ∙ c.if-stands_at-3.false)
+    let h = c.in_ok-get.ensures.lookup.3 in
+    elim c.match-branch-2.branch [
+      | in-43 w ↦ mark_some _ _ _ h.0 (h.1 0) _ (ap accidental_of w.in-43.is ∙ ap some (sym w.value-is))
+      | in-45 w ↦ mark_some _ _ _ h.0 (h.1 0) _ (ap accidental_of w.in-45.is ∙ ap some (sym w.value-is))
+      | in-61 w ↦ mark_some _ _ _ h.0 (h.1 0) _ (ap accidental_of w.in-61.is ∙ ap some (sym w.value-is))
+    ]

@@ -1,17 +1,24 @@
--- `key_at` looks for each letter among those that stand there, and for the accidental behind them. Assumes nothing.
-use Rattle.keys.proofs.Letters.{key_found_law, key_absent}
+-- `key_at` looks for the accidental behind the letters, and for each letter among those. Assumes nothing.
+use mathlib.Core.Path.{sym, ◌∙◌}
+use native.Mathlib.Omega.{arith}
+use Rattle.keys.proofs.Letters.{key_read, key_absent}
+use Rattle.keys.proofs.Marks.{mark_inside}
 use Rattle.keys.proofs.key.key_at.Goals as goal
 
-pub returns-in-With : goal.returns-in-With
-returns-in-With c =
-    key_found_law _ _ _ _ c.letters_end.ensures c.accidental_at-mark.ensures _ _ c.in-With.is _ _ _ _ _ _ _ c.is_among.ensures
-    c.is_among-in-With.ensures
-    c.is_among-in-With-2.ensures
-    c.is_among-in-With-3.ensures
-    c.is_among-in-With-4.ensures
-    c.is_among-in-With-5.ensures
-    c.is_among-in-With-6.ensures
+pub returns-in_err-mark : goal.returns-in_err-mark
+returns-in_err-mark c =
+    c.from_residual.ensures ∙ key_absent _ _ _ c.letters_end-end.ensures (sym c.accidental_at.ensures ∙ c.in_err-mark.was)
 
-pub returns-in-Without : goal.returns-in-Without
-returns-in-Without c =
-    key_absent _ _ _ _ c.letters_end.ensures c.accidental_at-mark.ensures c.in-Without.is
+pub slice_bounds-letters-end : goal.slice_bounds-letters-end
+slice_bounds-letters-end c =
+    let h = mark_inside _ _ _ (sym c.accidental_at.ensures ∙ c.in_ok-mark.was) in omega arith
+
+pub returns : goal.returns
+returns c =
+    key_read _ _ _ c.letters_end-end.ensures _ (sym c.accidental_at.ensures ∙ c.in_ok-mark.was) _ _ _ _ _ _ _ c.is_among.ensures
+    c.is_among-2.ensures
+    c.is_among-3.ensures
+    c.is_among-4.ensures
+    c.is_among-5.ensures
+    c.is_among-6.ensures
+    c.is_among-7.ensures

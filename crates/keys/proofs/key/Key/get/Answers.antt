@@ -7,6 +7,6 @@ pub returns-then-has : goal.returns-then-has
 unfolding accidental_in
 returns-then-has c = rw (sym c.has.ensures ∙ c.if-has.true, accidental_in)
 
-pub returns : goal.returns
+pub returns-else-has : goal.returns-else-has
 unfolding accidental_in
-returns c = rw (sym c.has.ensures ∙ c.if-has.false, accidental_in)
+returns-else-has c = rw (sym c.has.ensures ∙ c.if-has.false, accidental_in)

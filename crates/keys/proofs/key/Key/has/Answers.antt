@@ -1,37 +1,37 @@
--- `has` asks for one letter after the other; at each the definition computes. Assumes nothing.
-use mathlib.Core.Path.{sym}
+-- `has` has an arm for each row of the definition's table, which computes there. Assumes nothing.
+use native.Mathlib.Omega.{arith}
 use Rattle.keys.specs.Keys.{in_key}
 use Rattle.keys.proofs.Letters.{in_at, in_none}
 use Rattle.keys.proofs.key.Key.has.Goals as goal
 
-pub returns-then-letter-eq97 : goal.returns-then-letter-eq97
+pub returns-in-97 : goal.returns-in-97
 unfolding in_key
-returns-then-letter-eq97 c = in_at c.args.self _ 97 c.if-letter-eq97.true
+returns-in-97 c = in_at c.args.self _ 97 c.in-97.is
 
-pub returns-then-letter-eq98 : goal.returns-then-letter-eq98
+pub returns-in-98 : goal.returns-in-98
 unfolding in_key
-returns-then-letter-eq98 c = in_at c.args.self _ 98 c.if-letter-eq98.true
+returns-in-98 c = in_at c.args.self _ 98 c.in-98.is
 
-pub returns-then-letter-eq99 : goal.returns-then-letter-eq99
+pub returns-in-99 : goal.returns-in-99
 unfolding in_key
-returns-then-letter-eq99 c = in_at c.args.self _ 99 c.if-letter-eq99.true
+returns-in-99 c = in_at c.args.self _ 99 c.in-99.is
 
-pub returns-then-letter-eq100 : goal.returns-then-letter-eq100
+pub returns-in-100 : goal.returns-in-100
 unfolding in_key
-returns-then-letter-eq100 c = in_at c.args.self _ 100 c.if-letter-eq100.true
+returns-in-100 c = in_at c.args.self _ 100 c.in-100.is
 
-pub returns-then-letter-eq101 : goal.returns-then-letter-eq101
+pub returns-in-101 : goal.returns-in-101
 unfolding in_key
-returns-then-letter-eq101 c = in_at c.args.self _ 101 c.if-letter-eq101.true
+returns-in-101 c = in_at c.args.self _ 101 c.in-101.is
 
-pub returns-then-letter-eq102 : goal.returns-then-letter-eq102
+pub returns-in-102 : goal.returns-in-102
 unfolding in_key
-returns-then-letter-eq102 c = in_at c.args.self _ 102 c.if-letter-eq102.true
+returns-in-102 c = in_at c.args.self _ 102 c.in-102.is
 
-pub returns-then-letter-eq103 : goal.returns-then-letter-eq103
+pub returns-in-103 : goal.returns-in-103
 unfolding in_key
-returns-then-letter-eq103 c = in_at c.args.self _ 103 c.if-letter-eq103.true
+returns-in-103 c = in_at c.args.self _ 103 c.in-103.is
 
-pub returns : goal.returns
-returns c =
-    sym (in_none _ _ c.if-letter-eq97.false c.if-letter-eq98.false c.if-letter-eq99.false c.if-letter-eq100.false c.if-letter-eq101.false c.if-letter-eq102.false c.if-letter-eq103.false)
+pub returns-in_default : goal.returns-in_default
+returns-in_default c =
+    in_none _ _ (λ e. omega arith) (λ e. omega arith) (λ e. omega arith) (λ e. omega arith) (λ e. omega arith) (λ e. omega arith) (λ e. omega arith)
