@@ -4,6 +4,8 @@ ghost use Rattle.std.specs.Prelude.{◌≡◌, ◌+◌, length, drop};
 ghost use Rattle.text.specs.Fronts.{front};
 ghost use Rattle.lines.specs.Lines.{is_not_lf, line_at};
 
+use text::runs::run_end;
+
 // The place after a line's last byte, and the place where the next line begins.
 #[derive(Clone, Copy)]
 pub struct Line {
@@ -12,17 +14,11 @@ pub struct Line {
 }
 
 // The place of the first LF from i on, or of the text's end.
+#[tactic(auto, unfolding(crate::specs::Lines::is_not_lf))]
 fn lf_from(s: &[u8], i: usize) -> usize
     ensures { result ≡ i + length (front is_not_lf (drop i s.now)) }
 {
-    let mut at = i;
-    while at < s.len() {
-        if s[at] == 10 {
-            return at;
-        }
-        at += 1;
-    }
-    at
+    run_end(s, i, |b| b != b'\n')
 }
 
 // The line that begins at place i: it ends before its LF, and before one CR that stands there. Past the
@@ -39,7 +35,7 @@ pub fn line_at(s: &[u8], i: usize) -> Line
         return Line { end: lf, next };
     }
     let last = lf - 1;
-    if s[last] == 13 {
+    if s[last] == b'\r' {
         return Line { end: last, next };
     }
     Line { end: lf, next }

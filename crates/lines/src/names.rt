@@ -17,27 +17,21 @@ pub fn least(a: usize, b: usize) -> usize
     b
 }
 
-// How many names of a table stand before the first that is this one; where none is, how many there are. A place past the text's end is its end, and a
-// name that would end before it begins is empty.
+// How many names of a table stand before the first that is this one; where none is, how many there are. A place past
+// the text's end is its end, and a name that would end before it begins is empty.
 pub fn place_named(s: &[u8], places: &[usize], name: &[u8]) -> usize
     ensures meant { result ≡ place_among name.now (names_in s.now places.now) }
     ensures within { 2 * result ≤ length places.now }
 {
-    let mut at = 0;
-    let mut passed = 0;
-    while places.len() - at >= 2 {
-        let begin = places[at];
-        let end = places[at + 1];
-        let to = least(end, s.len());
-        let from = least(begin, to);
-        let known = &s[from..to];
-        if same_text(name, known) {
+    for passed in 0..places.len() / 2 {
+        let at = 2 * passed;
+        let to = places[at + 1].min(s.len());
+        let from = places[at].min(to);
+        if same_text(name, &s[from..to]) {
             return passed;
         }
-        at += 2;
-        passed += 1;
     }
-    passed
+    places.len() / 2
 }
 
 // The first token of a line, from `from` to `end`, and whether a second one follows it.
