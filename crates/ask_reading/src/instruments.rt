@@ -2,22 +2,15 @@
 
 use crate::words;
 use instrument::machine::{Command, Instrument};
-use lines::names::least;
 use operator::operator::Operator;
 
 fn operator(out: &mut [u8], from: usize, op: Operator) -> usize {
-    let amplitude = op.amplitude;
-    let freqratio = op.freqratio;
-    let attack = op.attack;
-    let decay = op.decay;
-    let sustain = op.sustain;
-    let release = op.release;
-    let mut at = words::bits(out, from, amplitude);
-    at = words::bits(out, at, freqratio);
-    at = words::bits(out, at, attack);
-    at = words::bits(out, at, decay);
-    at = words::bits(out, at, sustain);
-    at = words::bits(out, at, release);
+    let mut at = words::bits(out, from, op.amplitude);
+    at = words::bits(out, at, op.freqratio);
+    at = words::bits(out, at, op.attack);
+    at = words::bits(out, at, op.decay);
+    at = words::bits(out, at, op.sustain);
+    at = words::bits(out, at, op.release);
     words::word(out, at, op.feedback)
 }
 
@@ -36,31 +29,20 @@ fn command(out: &mut [u8], from: usize, c: Command) -> usize {
 }
 
 // One instrument, with at most 64 commands.
-fn instrument(out: &mut [u8], from: usize, i: Instrument) -> usize {
-    let commands = i.commands;
-    let count = i.count;
+fn instrument(out: &mut [u8], from: usize, i: &Instrument) -> usize {
     let mut at = words::bits(out, from, i.release);
-    at = words::number(out, at, count);
-    let most = least(count, 64);
-    let mut k = 0;
-    while k < most {
-        let slot = commands[k];
-        let own = slot.command;
-        at = command(out, at, own);
-        k += 1;
+    at = words::number(out, at, i.count);
+    for slot in i.commands.iter().take(i.count) {
+        at = command(out, at, slot.command);
     }
     at
 }
 
 // Puts the first n instruments at place `from`, at most 32 of them, and says where the next number comes.
-pub fn put(out: &mut [u8], from: usize, n: usize, table: [Instrument; 32]) -> usize {
-    let most = least(n, 32);
+pub fn put(out: &mut [u8], from: usize, n: usize, table: &[Instrument; 32]) -> usize {
     let mut at = from;
-    let mut k = 0;
-    while k < most {
-        let own = table[k];
+    for own in table.iter().take(n) {
         at = instrument(out, at, own);
-        k += 1;
     }
     at
 }

@@ -3,20 +3,22 @@
 
 use fields::float;
 use fields::word::put;
-use lines::names::least;
+
+// The bytes of a number.
+const WORD: usize = 4;
 
 pub fn word(out: &mut [u8], at: usize, w: u32) -> usize {
-    let from = least(at, out.len());
-    if out.len() - from < 4 {
+    let from = at.min(out.len());
+    if out.len() - from < WORD {
         return from;
     }
     put(out, from, w);
-    from + 4
+    from + WORD
 }
 
 // A number that four bytes may not hold counts as the largest that they do.
 pub fn number(out: &mut [u8], at: usize, n: usize) -> usize {
-    word(out, at, least(n, 0xffff_ffff) as u32)
+    word(out, at, u32::try_from(n).unwrap_or(u32::MAX))
 }
 
 // A float as its bit pattern.

@@ -1,8 +1,0 @@
--- `within` is the smaller of the two, so it counts within the buffer. Assumes nothing.
-use native.Mathlib.Omega.{arith}
-use borrow.Author.Rules.{rules}
-use Rattle.io.proofs.Counting.{prefix_len_of_le}
-use Rattle.ask_reading.proofs.answer.within.Goals as goal
-
-pub returns : goal.returns
-returns c = prefix_len_of_le _ _ (omega arith)
