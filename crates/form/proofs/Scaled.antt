@@ -1,15 +1,15 @@
 -- A sample that is clamped to -1..1 and multiplied by 32767.5 lies from -32767.5 to 32767.5, or is NaN: rounding keeps the order, and both ends are
 -- floats. So its nearest whole number needs 16 bits. Assumes nothing.
 use mathlib.Core.Path.{◌≡◌, refl, sym, subst, ◌∙◌}
-use mathlib.Core.Bool.{Bool, true, false, true≢false}
+use mathlib.Core.Bool.{Bool, true, false, cond, true≢false}
+use Rattle.std.specs.Float.{float_clamp}
 use Prim.Native.Nat.{ℕ, zero, suc, ◌-◌, ◌*◌, ◌%◌, ◌≤◌, ◌<◌, min}
 use native.Mathlib.Nat.{mul-pos, le_of_suc-le-suc, div-lt_iff_lt-mul, div-eq_of_lt}
 use native.Mathlib.Omega.{arith}
 use lib.Dec.{T, ltb, eqb, ltb→lt, eqb→eq}
 use lib.IntN.{pos, neg_ℤ}
-use lib.Ieee.{Float, nan, inf, fin, binary32, up, down, unlike, mul, neg, lt, le, ne, round}
+use lib.Ieee.{Float, nan, inf, fin, binary32, up, down, unlike, mul, neg, lt, le, is_nan, round}
 use lib.Ieee.Fits.{down_pos, and_l}
-use lib.Ieee.Compare.{differs_from_itself}
 use lib.Ieee.Order.{round_mono}
 use borrow.Author.Tests.{ltb-true, ltb-false}
 use Rattle.ieee.specs.Constants.{minus_one, one, plus_zero, sample_scale}
@@ -25,16 +25,26 @@ AtMostOne nan = Unit {0}
 AtMostOne (inf s) = ⊥
 AtMostOne (fin s m e) = m * up e ≤ down e
 
--- the definition's three cases
-pub clamp_below : (x : Float) → lt x minus_one ≡ true → clamp x ≡ minus_one
+two_tests : (a b : Bool) (l h x : Float) → cond a l (cond b h x) ≡ elim a as (λ c. Float) [ true ↦ l | false ↦ elim b as (λ c. Float) [ true ↦ h | false ↦ x ] ]
+two_tests true b l h x = refl
+two_tests false true l h x = refl
+two_tests false false l h x = refl
+
+-- the definition is the library's clamp
+pub clamp_is : (x : Float) → float_clamp x minus_one one ≡ clamp x
+unfolding clamp
+clamp_is x = two_tests (lt x minus_one) (lt one x) minus_one one x
+
+-- and has three cases
+clamp_below : (x : Float) → lt x minus_one ≡ true → clamp x ≡ minus_one
 unfolding clamp
 clamp_below x t = rw (t, clamp)
 
-pub clamp_above : (x : Float) → lt x minus_one ≡ false → lt one x ≡ true → clamp x ≡ one
+clamp_above : (x : Float) → lt x minus_one ≡ false → lt one x ≡ true → clamp x ≡ one
 unfolding clamp
 clamp_above x t u = rw (t, u, clamp)
 
-pub clamp_between : (x : Float) → lt x minus_one ≡ false → lt one x ≡ false → clamp x ≡ x
+clamp_between : (x : Float) → lt x minus_one ≡ false → lt one x ≡ false → clamp x ≡ x
 unfolding clamp
 clamp_between x t u = rw (t, u, clamp)
 
@@ -91,8 +101,8 @@ module _ (n d : ℕ) (p : 0 < d) (h : 2 * n ≤ 65535 * d) where
 -- ---- the product
 
 -- it is in the range unless it is NaN
-pub product : (c : Float) → AtMostOne c → ne (mul binary32 c sample_scale) (mul binary32 c sample_scale) ≡ false → AtMostScale (mul binary32 c sample_scale)
-unfolding mul ne
+pub product : (c : Float) → AtMostOne c → is_nan (mul binary32 c sample_scale) ≡ false → AtMostScale (mul binary32 c sample_scale)
+unfolding mul is_nan
 product nan h t = absurd (true≢false t)
 product (inf s) h t = absurd h
 product (fin s m e) h t = round_at_most (m * up e * 65535) (down e * 2) (mul-pos (down_pos e) (omega arith)) (omega arith) (unlike s false)
@@ -111,9 +121,11 @@ whole_small (fin s m e) h = nearest_small (m * up e) (down e) (down_pos e) h
 -- ---- the stored number, by the three tests of the code
 
 -- a NaN
-pub stored_nan : (p : Float) → ne p p ≡ true → 0 ≡ word (whole16 p)
-unfolding word whole16
-stored_nan p t = rw (differs_from_itself p (subst T (sym t) tt))
+pub stored_nan : (p : Float) → is_nan p ≡ true → 0 ≡ word (whole16 p)
+unfolding word whole16 is_nan
+stored_nan nan t = refl
+stored_nan (inf s) t = cc
+stored_nan (fin s m e) t = cc
 
 -- below zero, counted down from 2 ^ 16
 word_below : (n : ℕ) → n ≤ 32768 → (65536 - n) % 65536 ≡ word (neg_ℤ (pos (min n 32768)))

@@ -12,28 +12,31 @@ const WORDS: u32 = 65536;
 // The largest of them with a sign.
 const LOUDEST: u32 = 32767;
 
+// 2^23: from there on to 2^24 the floats are the whole numbers, and the lowest 23 of a float's bits say which
+// of them it is.
+const WHOLE_FROM: f32 = 8388608.0;
+
+const WHOLE_BITS: u32 = 8388608;
+
+// What a sample is multiplied by.
+const SCALE: f32 = 32767.5;
+
 // x, or the end of -1..1 that it lies past; NaN stays NaN.
 fn clamped(x: f32) -> f32
     ensures { result ≡ clamp x }
 {
-    if x < -1.0 {
-        return -1.0;
-    }
-    if x > 1.0 {
-        return 1.0;
-    }
-    x
+    x.clamp(-1.0, 1.0)
 }
 
 // The whole part of a float from 0 to 65,535. Added to 2^23, where the floats are the whole numbers,
 // it is rounded to one of the two whole numbers beside it; where that is the larger one, it is one
 // too many. There the bits end in the whole number without 2^23, so that nothing is converted.
 fn whole_part(x: f32) -> u32
-    requires fact_1 { T (le plus_zero x) }
-    requires fact_2 { T (le x (fin false 65535 (pos 0))) }
+    requires from_zero { T (le plus_zero x) }
+    requires within_16_bits { T (le x (fin false 65535 (pos 0))) }
     ensures { result ≡ to_unsigned 64 x }
 {
-    let near = f32::to_bits(x + 8388608.0) % 8388608;
+    let near = (x + WHOLE_FROM).to_bits() % WHOLE_BITS;
     if x < near as f32 { near - 1 } else { near }
 }
 
@@ -53,13 +56,7 @@ fn stored(n: u32, p: f32) -> u32
     requires { n ≤ 32768 }
     ensures { result ≡ stored_of n p }
 {
-    if p < 0.0 {
-        return WORDS - n;
-    }
-    if n > LOUDEST {
-        return LOUDEST;
-    }
-    n
+    if p < 0.0 { WORDS - n } else { n.min(LOUDEST) }
 }
 
 // The 16-bit number of a sample as it is stored: clamped to -1..1, times 32767.5, half away from
@@ -67,8 +64,8 @@ fn stored(n: u32, p: f32) -> u32
 pub fn sample(x: f32) -> u16
     ensures { result ≡ word (sample16 x) }
 {
-    let p = clamped(x) * 32767.5;
-    if p != p {
+    let p = clamped(x) * SCALE;
+    if p.is_nan() {
         return 0;
     }
     let n = nearest(p);

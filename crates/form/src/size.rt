@@ -15,12 +15,8 @@ pub fn field(size: Size, n: u32) -> u64
     ensures { result ≡ size_field size n }
 {
     match size {
-        Size::Published => {
-            return 36 + 2 * (n as u64);
-        }
-        Size::Old => {
-            return 32 + 2 * (n as u64);
-        }
+        Size::Published => 36 + 2 * u64::from(n),
+        Size::Old => 32 + 2 * u64::from(n),
     }
 }
 
@@ -29,7 +25,8 @@ pub fn size_of(number: u32) -> Size
     ensures { result ≡ size_numbered number }
 {
     if number == 1 {
-        return Size::Old;
+        Size::Old
+    } else {
+        Size::Published
     }
-    Size::Published
 }

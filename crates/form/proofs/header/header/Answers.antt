@@ -4,4 +4,14 @@ use Rattle.form.proofs.header.header.Goals as goal
 
 pub returns : goal.returns
 unfolding header
-returns c = rw (c.with_number.ensures, c.with_number-timed.ensures, c.with_number-rated.ensures, c.with_number-sized.ensures, c.field.ensures)
+returns c =
+    rw (
+      c.with_number.ensures,
+      c.with_number-timed.ensures,
+      c.with_number-rated.ensures,
+      c.with_number-sized.ensures,
+      c.field.ensures,
+      c.from.ensures,
+      c.from-2.ensures,
+      c.from-3.ensures,
+    )

@@ -1,54 +1,26 @@
--- The four stores of `with_number` are those of the definition's four bytes. Assumes nothing.
-use native.Mathlib.Numerals.{add-one, add-two, add-three}
-use Prim.Native.Nat.{ℕ, ◌+◌, ◌/◌, ◌%◌, ◌≤◌, ◌<◌}
-use native.Mathlib.Omega.{arith}
-use lib.Dec.{lit≤}
-use mir.Syntax.{w8, w64}
-use mir.Val.{Fits}
-use borrow.Author.Rules.{rules}
+-- The four bytes that `with_number` copies are those of the definition. Assumes nothing.
+use Rattle.std.proofs.Common.{◌≡◌, ℕ, ◌+◌, ◌-◌, ◌/◌, ◌%◌, ◌≤◌, List, [], ◌∷◌, length, take, drop, ◌++◌, append_assoc, sym, ap, ◌∙◌, arith}
+use native.Mathlib.Nat.{div-div-eq-div-mul}
+use lib.Seq.{sets, sets-eq, drop-drop}
+use borrow.Rule.Slice.PartMut.{put_mid}
 use Rattle.form.specs.Form.{le}
 use Rattle.form.proofs.header.with_number.Goals as goal
 
--- what a byte and its place ask for, over plain numbers
-byte : (v : ℕ) → Fits w8 (v % 256)
-byte v = search rules
+-- bytes copied over as many are those bytes stored one after the other
+copied : (xs bs : List ℕ) (at k : ℕ) → k ≡ length bs → at + length bs ≤ length xs → put_mid at k xs bs ≡ sets xs at bs
+copied xs bs at k e h =
+    ap (λ (rest : List ℕ). take at xs ++ (bs ++ rest)) (drop-drop k at xs ∙ ap (λ (n : ℕ). drop (at + n) xs) e)
+    ∙ sym (sets-eq bs xs at h ∙ append_assoc (take at xs) bs (drop (at + length bs) xs))
 
-place_fits : (at k : ℕ) → at ≤ 40 → k ≤ 3 → Fits w64 (at + k)
-place_fits at k h l = omega arith
-
-place_in : (at k : ℕ) → at ≤ 40 → k ≤ 3 → at + k < 44
-place_in at k h l = omega arith
-
-pub overflow_cast-form : goal.overflow_cast-form
-overflow_cast-form c = byte c.args.v
-
-pub overflow_cast-form-2 : goal.overflow_cast-form-2
-overflow_cast-form-2 c = byte (c.args.v / 256)
-
-pub overflow_add-form : goal.overflow_add-form
-overflow_add-form c = place_fits c.args.at 1 c.requires (lit≤ tt)
-
-pub bounds-form-at-2 : goal.bounds-form-at-2
-bounds-form-at-2 c = place_in c.args.at 1 c.requires (lit≤ tt)
-
-pub overflow_cast-form-3 : goal.overflow_cast-form-3
-overflow_cast-form-3 c = byte (c.args.v / 256 / 256)
-
-pub overflow_add-form-2 : goal.overflow_add-form-2
-overflow_add-form-2 c = place_fits c.args.at 2 c.requires (lit≤ tt)
-
-pub bounds-form-at-3 : goal.bounds-form-at-3
-bounds-form-at-3 c = place_in c.args.at 2 c.requires (lit≤ tt)
-
-pub overflow_cast-form-4 : goal.overflow_cast-form-4
-overflow_cast-form-4 c = byte (c.args.v / 256 / 256 / 256)
-
-pub overflow_add-form-3 : goal.overflow_add-form-3
-overflow_add-form-3 c = place_fits c.args.at 3 c.requires (lit≤ tt)
-
-pub bounds-form-at-4 : goal.bounds-form-at-4
-bounds-form-at-4 c = place_in c.args.at 3 c.requires (lit≤ tt)
+-- the four lower bytes of a number
+lower : (v : ℕ) → v % 256 ∷ v / 256 % 256 ∷ v / 65536 % 256 ∷ v / 16777216 % 256 ∷ [] ≡ le 4 v
+unfolding le
+lower v = rw (sym (div-div-eq-div-mul v 256 256), sym (div-div-eq-div-mul v 65536 256), sym (div-div-eq-div-mul v 256 256))
 
 pub returns : goal.returns
 unfolding le
-returns c = rw (add-one, add-two, add-three)
+returns c =
+    let bytes = le 4 c.args.v in
+    let e : c.copy_from_slice.new.self ≡ bytes = c.copy_from_slice.ensures.after ∙ ap (λ (s : List ℕ). take 4 s) c.to_le_bytes.ensures ∙ lower c.args.v in
+    let four : c.args.at + 4 - c.args.at ≡ 4 = omega arith in
+    rw e (copied c.args.form bytes c.args.at _ four (omega arith))

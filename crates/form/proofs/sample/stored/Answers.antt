@@ -1,6 +1,5 @@
 -- `stored` is the definition's choice, one case for each sign. Assumes nothing.
-use mathlib.Core.Path.{sym}
-use native.Mathlib.Omega.{arith}
+use Rattle.std.proofs.Common.{sym, ◌∙◌}
 use lib.Ieee.{of_bits}
 use Rattle.form.proofs.Scaled.{stored_of_below, stored_of_above}
 use Rattle.form.proofs.sample.stored.Goals as goal
@@ -9,10 +8,6 @@ pub returns-then-p : goal.returns-then-p
 unfolding of_bits
 returns-then-p c = sym (stored_of_below c.args.n c.args.p c.if-p.true)
 
-pub returns-then-n-gt-LOUDEST : goal.returns-then-n-gt-LOUDEST
+pub returns-else-p : goal.returns-else-p
 unfolding of_bits
-returns-then-n-gt-LOUDEST c = omega (arith, stored_of_above c.args.n c.args.p c.if-p.false, c.if-n-gt-LOUDEST.true)
-
-pub returns : goal.returns
-unfolding of_bits
-returns c = omega (arith, stored_of_above c.args.n c.args.p c.if-p.false, c.if-n-gt-LOUDEST.false)
+returns-else-p c = c.min.ensures ∙ sym (stored_of_above c.args.n c.args.p c.if-p.false)
