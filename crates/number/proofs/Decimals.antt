@@ -1,21 +1,20 @@
 -- Laws of decimals: when the digits of both sides are judged too long or a value, and that 18 digits stay below 10 ^ 18.
 -- The readers' proofs cite these, and never the definitions' text. Assumes nothing.
 use mathlib.Core.Path.{◌≡◌, refl, sym, ap, ◌∙◌}
-use mathlib.Core.Bool.{false}
+use mathlib.Core.Bool.{true, false}
 use mathlib.Core.List.{List, [], ◌∷◌}
-use Prim.Native.Nat.{ℕ, suc, ◌+◌, ◌*◌, ◌^◌, ◌≤◌, ◌<◌}
-use native.Mathlib.Nat.{le_trans, le_of_eq, lt_of_lt_of_le, mul-le-mul_right, pow-le-pow_right, one-mul}
-use native.Mathlib.Numerals.{add-one}
+use Prim.Native.Nat.{ℕ, ◌+◌, ◌*◌, ◌^◌, ◌≤◌, ◌<◌}
+use native.Mathlib.Nat.{le_trans, le_of_eq, lt_of_lt_of_le, mul-le-mul_right, pow-le-pow_right, one-le-pow, one-mul}
 use native.Mathlib.Omega.{arith}
-use lib.ListN.{length, drop, get_or}
-use lib.Seq.{drop-cons}
-use lib.ListN.{drop_of_length-le}
+use lib.ListN.{length, drop}
+use lib.Seq.{drop-drop}
 use lib.Pow.{pow-add}
 use lib.Ieee.{Float, binary32, round}
-use borrow.Author.Tests.{le-leb, lt-leb, eq-eqb, ne_eqb}
+use borrow.Author.Tests.{le-leb, lt-leb}
 use Rattle.std.specs.Prelude.{Ok, Err}
 use Rattle.text.specs.Parsed.{parsed}
 use Rattle.number.specs.declared.decimal.NoDecimal.TheVariants.{Unreadable, TooLong}
+use Rattle.text.specs.Characters.{starts_with}
 use Rattle.text.specs.Fronts.{front, after}
 use Rattle.number.specs.Digits.{is_digit, value_from}
 use Rattle.number.specs.Decimal.{nearest_to, judged, pointed, ended, begun, decimal_at}
@@ -33,11 +32,6 @@ pub judged_value : (ds es : List ℕ) (next : ℕ) (x : Float) → length ds + l
 unfolding judged nearest_to
 judged_value ds es next x h e = rw (le-leb _ _ h, judged) (ap (λ (y : Float). Ok (parsed y next)) (e ∙ ap (λ (n : ℕ). round binary32 false n (10 ^ length es)) (sym (value_append 0 ds es))))
 
--- up to 18 digits with none after the point
-pub judged_whole : (ds : List ℕ) (next : ℕ) (x : Float) → length ds ≤ 18 → x ≡ round binary32 false (value_from 0 ds) 1 → Ok (parsed x next) ≡ judged ds [] next
-unfolding value_from
-judged_whole ds next x h e = judged_value ds [] next x (omega arith) e
-
 -- up to 18 digits make less than 10 ^ 18
 pub room_first : (s : List ℕ) → length (front is_digit s) ≤ 18 → (0 + 1) * 10 ^ length (front is_digit s) ≤ 10 ^ 18
 room_first s h = le_trans (le_of_eq (one-mul (10 ^ length (front is_digit s)))) (pow-le-pow_right (omega arith) h)
@@ -54,6 +48,23 @@ room_second s t h =
 -- what fits the room is below it
 pub value_room : (v : ℕ) (s : List ℕ) → (v + 1) * 10 ^ length (front is_digit s) ≤ 10 ^ 18 → value_from v (front is_digit s) < 10 ^ 18
 value_room v s h = lt_of_lt_of_le (value_below v s) h
+
+-- digits of both sides, up to 18
+module _ (ds es : List ℕ) (d : front is_digit ds ≡ ds) (e : front is_digit es ≡ es) (few : length ds + length es ≤ 18) where
+  pub before_small : value_from 0 ds < 10 ^ 18
+  before_small = rw d at (value_room 0 ds (room_first ds (omega (arith, ap length d))))
+
+  pub both_small : (v : ℕ) → v ≡ value_from 0 ds → value_from v es < 10 ^ 18
+  both_small v q =
+      let h = value_room (value_from 0 (front is_digit ds)) es (room_second ds es (omega (arith, ap length d, ap length e))) in
+      rw q (rw (d, e) at h)
+
+-- what the digits behind the point are counted in
+pub power_some : (es : List ℕ) → 0 < 10 ^ length es
+power_some es = one-le-pow (length es) 10 (omega arith)
+
+pub power_small : (es : List ℕ) → length es ≤ 18 → 10 ^ length es ≤ 10 ^ 18
+power_small es h = pow-le-pow_right (omega arith) h
 
 -- ---- after the point
 
@@ -79,43 +90,40 @@ unfolding begun
 begun_none i [] rest h = refl
 begun_none i (d ∷ ds) rest h = absurd (omega arith)
 
-ended_end : (i : ℕ) (ds : List ℕ) → ended i ds [] ≡ judged ds [] (i + length ds)
-unfolding ended
-ended_end i ds = refl
+-- no point follows the first digits
+pub ended_other : (i : ℕ) (ds rest : List ℕ) → starts_with 46 rest ≡ false → ended i ds rest ≡ judged ds [] (i + length ds)
+unfolding ended starts_with
+ended_other i ds [] h = refl
+ended_other i ds (b ∷ rest) h = rw (h, ended)
 
-pub ended_other : (i : ℕ) (ds : List ℕ) (b : ℕ) (rest : List ℕ) → (b ≡ 46 → ⊥) → ended i ds (b ∷ rest) ≡ judged ds [] (i + length ds)
-unfolding ended
-ended_other i ds b rest h = rw (ne_eqb b 46 h, ended)
+-- a point does
+ended_point : (i : ℕ) (ds rest : List ℕ) → starts_with 46 rest ≡ true → ended i ds rest ≡ pointed i ds (front is_digit (drop 1 rest))
+unfolding ended starts_with
+ended_point i ds [] h = cc
+ended_point i ds (b ∷ rest) h = rw (h, ended)
 
-ended_point : (i : ℕ) (ds : List ℕ) (b : ℕ) (rest : List ℕ) → b ≡ 46 → ended i ds (b ∷ rest) ≡ pointed i ds (front is_digit rest)
-unfolding ended
-ended_point i ds b rest h = rw (eq-eqb b 46 h, ended)
-
--- no digit at the place
-pub decimal_none : (s : List ℕ) (i : ℕ) → length (front is_digit (drop i s)) ≡ 0 → Err Unreadable ≡ decimal_at s i
-unfolding decimal_at
-decimal_none s i h = sym (begun_none i (front is_digit (drop i s)) (after is_digit (drop i s)) h)
-
--- digits up to the place `point`
-module _ (s : List ℕ) (i point : ℕ) (e : point ≡ i + length (front is_digit (drop i s))) (h : 0 < length (front is_digit (drop i s))) where
-  ends : decimal_at s i ≡ ended i (front is_digit (drop i s)) (drop point s)
+-- the digits ds stand at the place i
+module _ (s : List ℕ) (i : ℕ) (ds : List ℕ) (e : ds ≡ front is_digit (drop i s)) where
+  -- there are none
+  pub decimal_none : length ds ≡ 0 → Err Unreadable ≡ decimal_at s i
   unfolding decimal_at
-  ends =
-      begun_some i (front is_digit (drop i s)) (after is_digit (drop i s)) h
-      ∙ ap (ended i (front is_digit (drop i s))) (after_is is_digit s i ∙ ap (λ (k : ℕ). drop k s) (sym e))
+  decimal_none h = sym (begun_none i ds (after is_digit (drop i s)) h) ∙ ap (λ (fs : List ℕ). begun i fs (after is_digit (drop i s))) e
 
-  -- the text ends there
-  pub decimal_end_law : length s ≤ point → judged (front is_digit (drop i s)) [] point ≡ decimal_at s i
-  decimal_end_law l =
-      sym (ends ∙ ap (ended i (front is_digit (drop i s))) (drop_of_length-le s l) ∙ ended_end i (front is_digit (drop i s)) ∙ ap (judged (front is_digit (drop i s)) []) (sym e))
+  ends : 0 < length ds → decimal_at s i ≡ ended i ds (drop (i + length ds) s)
+  unfolding decimal_at
+  ends h =
+      ap (λ (fs : List ℕ). begun i fs (after is_digit (drop i s))) (sym e)
+      ∙ begun_some i ds (after is_digit (drop i s)) h
+      ∙ ap (ended i ds) (after_is is_digit s i ∙ ap (λ (fs : List ℕ). drop (i + length fs) s) (sym e))
 
-  -- another byte than a point stands there
-  pub decimal_whole : point < length s → (get_or s point 0 ≡ 46 → ⊥) → judged (front is_digit (drop i s)) [] point ≡ decimal_at s i
-  decimal_whole l n =
-      sym (ends ∙ ap (ended i (front is_digit (drop i s))) (drop-cons s point 0 l) ∙ ended_other i (front is_digit (drop i s)) (get_or s point 0) (drop (suc point) s) n ∙ ap (judged (front is_digit (drop i s)) []) (sym e))
+  -- no point follows them
+  pub decimal_whole : 0 < length ds → starts_with 46 (drop (i + length ds) s) ≡ false → judged ds [] (i + length ds) ≡ decimal_at s i
+  decimal_whole h n = sym (ends h ∙ ended_other i ds (drop (i + length ds) s) n)
 
-  -- a point stands there
-  pub decimal_pointed : point < length s → get_or s point 0 ≡ 46 → pointed i (front is_digit (drop i s)) (front is_digit (drop (point + 1) s)) ≡ decimal_at s i
-  decimal_pointed l p =
-      rw add-one
-      (sym (ends ∙ ap (ended i (front is_digit (drop i s))) (drop-cons s point 0 l) ∙ ended_point i (front is_digit (drop i s)) (get_or s point 0) (drop (suc point) s) p))
+  -- a point follows them, and then the digits es
+  pub decimal_pointed : (es : List ℕ) → 0 < length ds → starts_with 46 (drop (i + length ds) s) ≡ true
+      → es ≡ front is_digit (drop (i + length ds + 1) s) → pointed i ds es ≡ decimal_at s i
+  decimal_pointed es h p f =
+      sym
+      (ends h ∙ ended_point i ds (drop (i + length ds) s) p
+      ∙ ap (λ (t : List ℕ). pointed i ds (front is_digit t)) (drop-drop 1 (i + length ds) s) ∙ ap (pointed i ds) (sym f))

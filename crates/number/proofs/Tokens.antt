@@ -9,8 +9,9 @@ use native.Mathlib.Omega.{arith}
 use lib.Dec.{leb, eqb}
 use lib.ListN.{length, take, drop}
 use lib.Seq.{drop-drop}
-use borrow.Author.Tests.{lt-leb}
+use borrow.Author.Tests.{lt-leb, ne_eqb}
 use Rattle.text.specs.Blanks.{is_ink}
+use Rattle.text.specs.Characters.{starts_with}
 use Rattle.text.specs.Fronts.{front, after}
 use Rattle.text.proofs.Fronts.{Stops}
 use Rattle.text.proofs.Joins.{front_joined, after_joined, part_joined, ink_stops, blank_small}
@@ -110,10 +111,13 @@ not_digit : (b : ℕ) → is_ink b ≡ false → is_digit b ≡ false
 unfolding is_digit
 not_digit b e = let h = blank_small b e in rw (lt-leb 48 b (omega arith))
 
+not_point : (b : ℕ) → is_ink b ≡ false → eqb b 46 ≡ false
+not_point b h = ne_eqb b 46 (λ (e : b ≡ 46). omega (arith, blank_small b h))
+
 ended_joined : (ds rest t : List ℕ) → Stops is_ink t → ended 0 ds (rest ++ t) ≡ ended 0 ds rest
-unfolding ended
+unfolding ended starts_with
 ended_joined ds [] [] h = refl
-ended_joined ds [] (b ∷ t) h = ended_other 0 ds b t (λ (e : b ≡ 46). omega (arith, blank_small b h))
+ended_joined ds [] (b ∷ t) h = ended_other 0 ds (b ∷ t) (not_point b h)
 ended_joined ds (c ∷ r) t h =
     ap
     (λ (es : List ℕ). elim (eqb c 46) as (λ _. Result (Parsed Float) NoDecimal) [ true ↦ pointed 0 ds es | false ↦ judged ds [] (0 + length ds) ])

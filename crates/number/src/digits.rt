@@ -1,47 +1,46 @@
 // Digit runs (the Rust's `eat_int`): the value of the digits at a place of a text, and the place
 // after them. One definition serves every limit: 4,294,967,295 for values, 2^64 - 1 for loop counts.
 
-ghost use Rattle.std.specs.Prelude.{◌≡◌, ◌+◌, ◌-◌, length, drop};
+ghost use Rattle.std.specs.Prelude.{◌≡◌, ◌+◌, ◌-◌, ◌^◌, ◌<◌, ◌≤◌, length, drop, MatchOption};
 ghost use Rattle.text.specs.Fronts.{front};
-ghost use Rattle.text.specs.Parsed.{parsed};
-ghost use Rattle.number.specs.Digits.{is_digit, int_at};
+ghost use Rattle.number.specs.Digits.{is_digit, value_from, int_at};
 
 use text::parsed::Parsed;
+use text::runs::run_end;
 
 // Whether b is one of the ten digits.
-pub(crate) fn is_digit(b: u8) -> bool
+#[tactic(auto, unfolding(crate::specs::Digits::is_digit))]
+fn is_digit(b: u8) -> bool
     ensures { result ≡ is_digit b }
 {
-    if b < 48 {
-        return false;
-    }
-    b <= 57
+    matches!(b, b'0'..=b'9')
 }
 
 // What the digit b counts. (A byte below `0`, which no caller has here, counts 0.)
-pub(crate) fn digit(b: u8) -> u64
+fn digit(b: u8) -> u64
     ensures { result ≡ b - 48 }
 {
-    if b < 48 {
-        return 0;
-    }
-    (b - 48) as u64
+    u64::from(b.saturating_sub(b'0'))
 }
 
-// The place after the digits that stand at i: i itself where there is none.
-pub(crate) fn run_end(s: &[u8], i: usize) -> usize
-    ensures { result ≡ i + length (front is_digit (drop i s.now)) }
+// The digits that stand at i.
+pub(crate) fn digits_at(s: &[u8], i: usize) -> &[u8]
+    ensures run { result.now ≡ front is_digit (drop i s.now) }
+    ensures digits { front is_digit result.now ≡ result.now }
+    ensures within { 0 < length result.now → i + length result.now ≤ length s.now }
 {
-    let mut at = i;
-    while at < s.len() {
-        let b = s[at];
-        if is_digit(b) {
-            at += 1;
-        } else {
-            return at;
-        }
+    s.get(i..run_end(s, i, |b| is_digit(b))).unwrap_or(&[])
+}
+
+// The value of the digits, read after v: none where it is over 2^64 - 1.
+pub(crate) fn value_after(v: u64, digits: &[u8]) -> Option<u64>
+    ensures { MatchOption result (2 ^ 64 ≤ value_from v digits.now) (λ value. value ≡ value_from v digits.now) }
+{
+    let mut value = v;
+    for b in digits {
+        value = value.checked_mul(10)?.checked_add(digit(*b))?;
     }
-    at
+    Some(value)
 }
 
 // The number at place i of s, if its value is at most `limit`: leading zeros are read, and where the
@@ -49,33 +48,13 @@ pub(crate) fn run_end(s: &[u8], i: usize) -> usize
 pub fn eat_int(s: &[u8], i: usize, limit: u64) -> Option<Parsed<u64>>
     ensures { result ≡ int_at limit s.now i }
 {
-    let mut at = i;
-    let mut v: u64 = 0;
-    while at < s.len() {
-        let b = s[at];
-        if is_digit(b) {
-            let d = digit(b);
-            if d > limit {
-                return None;
-            }
-            if v > (limit - d) / 10 {
-                return None;
-            }
-            v = v * 10 + d;
-            at += 1;
-        } else {
-            return found(i, at, v);
-        }
-    }
-    found(i, at, v)
-}
-
-// The answer for the digits from i up to `at`, whose value is v.
-fn found(i: usize, at: usize, v: u64) -> Option<Parsed<u64>>
-    ensures { (at ≡ i → result ≡ None) × ((at ≡ i → ⊥) → result ≡ Some (parsed v at)) }
-{
-    if at == i {
+    let digits = digits_at(s, i);
+    let value = value_after(0, digits)?;
+    if digits.is_empty() || value > limit {
         return None;
     }
-    Some(Parsed { value: v, next: at })
+    Some(Parsed {
+        value,
+        next: i + digits.len(),
+    })
 }

@@ -1,28 +1,15 @@
--- `raised` doubles: the number is n times a power of two that it is itself at least as large as, so few doublings reach d.
--- Assumes nothing.
-use mathlib.Core.Path.{sym}
-use Prim.Native.Nat.{◌<◌}
-use native.Mathlib.Nat.{mul-one}
-use native.Mathlib.Omega.{arith}
-use lib.Pow.{pow_pos}
+-- `raised` doubles: a number below 10^18 is doubled fewer than 60 times. Assumes nothing.
+use Rattle.std.proofs.Common.{◌<◌, arith}
 use Rattle.number.proofs.Powers.{pow_more, twice_scaled, exponent_lt}
 use Rattle.number.proofs.decimal.raised.Goals as goal
-
-pub loop-number-init : goal.loop-number-init
-loop-number-init c = (sym (mul-one _), omega arith, omega arith, omega arith)
-
--- fewer than 60 doublings so far, since the number is below d
-few : (c : goal.In-loop-number) → c.loop-number.by < 60
-few c = exponent_lt _ 60 (omega arith)
-
-pub loop-number-smaller : goal.loop-number-smaller
-loop-number-smaller c = omega (arith, pow_pos c.loop-number.by)
 
 pub loop-number-preserved : goal.loop-number-preserved
 loop-number-preserved c =
     let b = c.loop-number.by in
-    let n = c.args.n in
-    (omega (arith, twice_scaled n b), omega (arith, pow_more 2 b), omega arith, omega (arith, few c))
-
-pub returns : goal.returns
-returns c = (c.loop-number.invariant.0, (omega arith, (omega arith, omega arith)))
+    let few : b < 60 = exponent_lt b 60 (omega arith) in
+    record {
+      scaled = omega (arith, twice_scaled c.args.n b);
+      power = omega (arith, pow_more 2 b);
+      no_further = omega arith;
+      by_most = omega arith;
+    }
