@@ -3,24 +3,22 @@
 use mathlib.Core.Path.{◌≡◌, sym, ap}
 use Prim.Native.Nat.{ℕ}
 use lib.Ieee.{Float}
+use Rattle.std.specs.Prelude.{Result, Ok, Err}
+use Rattle.sheet.specs.declared.refusal.Refusal.{Refusal}
+use Rattle.sheet.specs.Numbers.{outcome_on}
+use Rattle.environment.proofs.Numbers.{number_same}
 use Rattle.sheet.proofs.Outcomes.{going_same, refused_same, going_apart}
-use Rattle.environment.specs.declared.range.RangedValue.{RangedValue}
-use Rattle.environment.specs.declared.range.RangedValue.TheVariants as RangedValue
-use Rattle.environment.specs.declared.range.RangedAmplitude.{RangedAmplitude}
-use Rattle.environment.specs.declared.range.RangedAmplitude.TheVariants.{Amplitude, Refused}
 use Rattle.environment.specs.Ranges.{value_outcome, amplitude_outcome}
 
-module _ (line : ℕ) where
-  pub value_same : (r q : RangedValue) → value_outcome line r ≡ value_outcome line q → r ≡ q
-  unfolding value_outcome
-  value_same (RangedValue.Value v) (RangedValue.Value w) e = ap RangedValue.Value (going_same _ _ e)
-  value_same (RangedValue.Value v) (RangedValue.Refused n) e = going_apart _ _ _ e
-  value_same (RangedValue.Refused n) (RangedValue.Value v) e = going_apart _ _ _ (sym e)
-  value_same (RangedValue.Refused n) (RangedValue.Refused m) e = ap RangedValue.Refused (refused_same ℕ _ _ _ _ e).0
+pub outcome_same : {A : Type 0} (line : ℕ) (r q : Result A Refusal) → outcome_on line r ≡ outcome_on line q → r ≡ q
+outcome_same line (Ok x) (Ok y) e = ap Ok (going_same _ _ e)
+outcome_same line (Ok x) (Err w) e = going_apart _ _ _ e
+outcome_same line (Err v) (Ok y) e = going_apart _ _ _ (sym e)
+outcome_same {A} line (Err v) (Err w) e = ap Err (number_same v w (refused_same A _ _ _ _ e).0)
 
-  pub amplitude_same : (r q : RangedAmplitude) → amplitude_outcome line r ≡ amplitude_outcome line q → r ≡ q
-  unfolding amplitude_outcome
-  amplitude_same (Amplitude x) (Amplitude y) e = ap Amplitude (going_same _ _ e)
-  amplitude_same (Amplitude x) (Refused n) e = going_apart _ _ _ e
-  amplitude_same (Refused n) (Amplitude x) e = going_apart _ _ _ (sym e)
-  amplitude_same (Refused n) (Refused m) e = ap Refused (refused_same Float _ _ _ _ e).0
+module _ (line : ℕ) where
+  pub value_same : (r q : Result ℕ Refusal) → value_outcome line r ≡ value_outcome line q → r ≡ q
+  value_same r q e = outcome_same line r q e
+
+  pub amplitude_same : (r q : Result Float Refusal) → amplitude_outcome line r ≡ amplitude_outcome line q → r ≡ q
+  amplitude_same r q e = outcome_same line r q e

@@ -1,27 +1,23 @@
 -- The values that commands and directives take, with their refusals in order: "`o`, `l`, `t`: 7, 8."; "Decimal command:
 -- 7, 19, 8."; "key without accidental" is 9. Assumes nothing.
-use Rattle.std.specs.Prelude.{◌||◌, ℕ, Float}
+use Rattle.std.specs.Prelude.{◌||◌, ℕ, Float, Option as Answer, Some, None, Result, Ok, Err}
 use Rattle.std.proofs.Math.Option.{Option, none, some}
 use Rattle.std.specs.Float.Ieee.{lt}
 use Rattle.ieee.specs.Constants.{plus_zero, one}
-use Rattle.number.specs.declared.digits.Int.{Int}
-use Rattle.number.specs.declared.digits.Int.TheVariants.{Number, Absent}
-use Rattle.number.specs.declared.decimal.Decimal.{Decimal}
-use Rattle.number.specs.declared.decimal.Decimal.TheVariants.{Value, Unreadable, TooLong}
+use Rattle.text.specs.declared.parsed.Parsed.{Parsed}
+use Rattle.number.specs.declared.decimal.NoDecimal.{NoDecimal}
+use Rattle.number.specs.declared.decimal.NoDecimal.TheVariants.{Unreadable, TooLong}
+use Rattle.sheet.specs.declared.refusal.Refusal.{Refusal}
+use Rattle.sheet.specs.Numbers.{outcome_on}
 use Rattle.sheet.specs.Refusals.{Outcome, going, refused, ◌>>=◌, ◌>>◌, refuse◌on◌unless◌, refuse◌on◌if◌, refuse◌on◌without◌}
 use Rattle.keys.specs.declared.key.Key.{Key}
-use Rattle.keys.specs.declared.key.KeyAt.{KeyAt}
 use Rattle.keys.specs.Keys.{key_found}
-use Rattle.environment.specs.declared.range.RangedValue.{RangedValue}
-use Rattle.environment.specs.declared.range.RangedValue.TheVariants as RangedValue
-use Rattle.environment.specs.declared.range.RangedAmplitude.{RangedAmplitude}
-use Rattle.environment.specs.declared.range.RangedAmplitude.TheVariants as RangedAmplitude
 use Rattle.environment.specs.Bounds.{Bounds, within}
 
 -- "a digit run, not found if absent or over 4,294,967,295"
-unfoldable pub digit_run : Int → Option ℕ
-digit_run (Number v next) = some v
-digit_run Absent = none
+unfoldable pub digit_run : Answer (Parsed ℕ) → Option ℕ
+digit_run (Some found) = some found.value
+digit_run None = none
 
 -- a digit run within bounds, on a line: "`o`, `l`, `t`: 7, 8."
 unfoldable pub ranged : ℕ → Bounds → Option ℕ → Outcome ℕ
@@ -35,10 +31,10 @@ pub data Amount : Type 0 where
   amount : Float → Amount
   unreadable too_long : Amount
 
-unfoldable pub amount_of : Decimal → Amount
-amount_of (Value x next) = amount x
-amount_of Unreadable = unreadable
-amount_of TooLong = too_long
+unfoldable pub amount_of : Result (Parsed Float) NoDecimal → Amount
+amount_of (Ok found) = amount found.value
+amount_of (Err Unreadable) = unreadable
+amount_of (Err TooLong) = too_long
 
 -- a decimal that is there: "Decimal command: 7, 19"
 unfoldable pub readable : ℕ → Amount → Outcome Float
@@ -59,16 +55,14 @@ loudness line a = do
 unfoldable pub key_taken : ℕ → Option Key → Outcome Key
 key_taken line k = refuse 9 on line without k
 
--- ---- answers: what each case stands for, on a line
+-- ---- answers: what each stands for, on a line
 
-unfoldable pub value_outcome : ℕ → RangedValue → Outcome ℕ
-value_outcome line (RangedValue.Value v) = going v
-value_outcome line (RangedValue.Refused n) = refused n line
+abbrev pub value_outcome : ℕ → Result ℕ Refusal → Outcome ℕ
+value_outcome line r = outcome_on line r
 
-unfoldable pub amplitude_outcome : ℕ → RangedAmplitude → Outcome Float
-amplitude_outcome line (RangedAmplitude.Amplitude x) = going x
-amplitude_outcome line (RangedAmplitude.Refused n) = refused n line
+abbrev pub amplitude_outcome : ℕ → Result Float Refusal → Outcome Float
+amplitude_outcome line r = outcome_on line r
 
-unfoldable pub key_outcome : ℕ → KeyAt → Outcome Key
+unfoldable pub key_outcome : ℕ → Answer (Parsed Key) → Outcome Key
 unfolding key_taken key_found
 key_outcome line k = key_taken line (key_found k)

@@ -66,28 +66,24 @@ impl Environment {
     }
 
     // The octave one higher, and no higher than the highest.
+    #[tactic(auto, unfolding(crate::specs::Environment::octave_up))]
     pub fn octave_up(self) -> Environment
         ensures { result ≡ octave_up self }
     {
-        let mut next = self;
-        if self.octave < Environment::MAX_OCTAVE {
-            next.octave = self.octave + 1;
-            return next;
+        Environment {
+            octave: self.octave.saturating_add(1).min(Environment::MAX_OCTAVE),
+            ..self
         }
-        next.octave = Environment::MAX_OCTAVE;
-        next
     }
 
     // The octave one lower, and no lower than the lowest.
+    #[tactic(auto, unfolding(crate::specs::Environment::octave_down))]
     pub fn octave_down(self) -> Environment
         ensures { result ≡ octave_down self }
     {
-        let mut next = self;
-        if self.octave > Environment::MIN_OCTAVE {
-            next.octave = self.octave - 1;
-            return next;
+        Environment {
+            octave: self.octave.saturating_sub(1).max(Environment::MIN_OCTAVE),
+            ..self
         }
-        next.octave = Environment::MIN_OCTAVE;
-        next
     }
 }
