@@ -4,7 +4,7 @@ use mathlib.Core.Path.{◌≡◌, refl, sym, ap, ap₂, ◌∙◌}
 use mathlib.Core.Bool.{Bool, true, false, ◌||◌}
 use mathlib.Core.List.{List, [], ◌∷◌, ◌++◌, append_assoc}
 use mathlib.Core.Option.{Option}
-use Prim.Native.Nat.{ℕ, zero, suc, ◌+◌, ◌-◌, ◌≤◌, ◌<◌}
+use Prim.Native.Nat.{ℕ, suc, ◌+◌, ◌-◌, ◌≤◌, ◌<◌}
 use native.Mathlib.Omega.{arith}
 use lib.Dec.{leb, eqb}
 use lib.ListN.{length, take, drop, length-append, length-drop}
@@ -13,37 +13,37 @@ use lib.Ieee.{Float}
 use borrow.Author.Tests.{eqb-false, eq-eqb, ne_eqb, le-leb, lt-leb, lt-ltb, le-ltb}
 use Rattle.lines.specs.Tokens.{tokens_of}
 use Rattle.lines.proofs.Tokens.{Token}
-use Rattle.number.specs.declared.digits.Int.{Int}
-use Rattle.number.specs.declared.digits.Int.TheVariants.{Number, Absent}
-use Rattle.number.specs.declared.decimal.Decimal.{Decimal}
-use Rattle.number.specs.declared.decimal.Decimal.TheVariants.{Value, Unreadable, TooLong}
+use Rattle.std.specs.Prelude.{Option as Optional, Some, None, Result, Ok, Err}
+use Rattle.text.specs.declared.parsed.Parsed.{Parsed}
+use Rattle.text.specs.Parsed.{parsed}
+use Rattle.number.specs.declared.decimal.NoDecimal.{NoDecimal}
+use Rattle.number.specs.declared.decimal.NoDecimal.TheVariants.{Unreadable, TooLong}
 use Rattle.number.specs.Digits.{value_most, int_at, int_width}
 use Rattle.number.specs.Decimal.{decimal_at, decimal_width}
 use Rattle.number.proofs.Cuts.{decimal_placed}
 use Rattle.number.proofs.Places.{int_placed}
 use Rattle.number.proofs.Tokens.{int_moved, decimal_moved, int_token, decimal_token}
 use Rattle.operator.specs.declared.operator.Operator.{Operator}
-use Rattle.tree.specs.Lines.{indent_refusal}
 use Rattle.sheet.specs.Capacities.{feedback_most}
 use Rattle.sheet.specs.Refusals.{Outcome, going, refused, ◌>>=◌, ◌>>◌, refuse◌on◌unless◌}
 use Rattle.strict.specs.declared.mode.Mode.{Mode}
 use Rattle.strict.specs.Strict.{tailed, read_to_its_end}
 use Rattle.strict.proofs.Tails.{tailed_moved, read_through, read_tail}
 use Rattle.operators.specs.OperatorLines.{indent_of, operator_of, indented, readable, numbers_read, present, feedback_read, operator_read}
-use Rattle.operators.specs.Steps.{Passed, Stopped, numbers_of, finished_read}
+use Rattle.operators.specs.Steps.{Passed, Stopped, numbers_of}
 
 -- ---- one token
 
-readable_moved : (line k : ℕ) (d : Decimal) → readable line (decimal_moved k d) ≡ readable line d
+readable_moved : (line k : ℕ) (d : Result (Parsed Float) NoDecimal) → readable line (decimal_moved k d) ≡ readable line d
 unfolding readable
-readable_moved line k (Value x next) = refl
-readable_moved line k Unreadable = refl
-readable_moved line k TooLong = refl
+readable_moved line k (Ok found) = refl
+readable_moved line k (Err Unreadable) = refl
+readable_moved line k (Err TooLong) = refl
 
-present_moved : (line k : ℕ) (i : Int) → present line (int_moved k i) ≡ present line i
+present_moved : (line k : ℕ) (i : Optional (Parsed ℕ)) → present line (int_moved k i) ≡ present line i
 unfolding present
-present_moved line k (Number v next) = refl
-present_moved line k Absent = refl
+present_moved line k (Some found) = refl
+present_moved line k None = refl
 
 module _ (s : List ℕ) (at from end : ℕ) (t : Token s at from end) where
   -- the token alone
@@ -65,36 +65,43 @@ module _ (s : List ℕ) (at from end : ℕ) (t : Token s at from end) where
   cut_tailed : (mode : Mode) (next : ℕ) (c : Cut next) → tailed mode next end ≡ tailed mode c.stop (length alone)
   cut_tailed mode next c = ap₂ (tailed mode) (sym c.place) (sym alone_long) ∙ tailed_moved mode from c.stop (length alone)
 
-  module _ (x : Float) (next : ℕ) (e : decimal_at s from ≡ Value x next) where
-    decimal_alone : (c : Cut next) × (decimal_at alone 0 ≡ Value x c.stop)
+  module _ (found : Parsed Float) (e : decimal_at s from ≡ Ok found) where
+    decimal_alone : (c : Cut found.next) × (decimal_at alone 0 ≡ Ok (parsed found.value c.stop))
     decimal_alone = go (decimal_at alone 0) refl (sym (decimal_token s from end (omega (arith, t.some)) t.stops) ∙ e)
       where
-        go : (d : Decimal) → decimal_at alone 0 ≡ d → decimal_moved from d ≡ Value x next → (c : Cut next) × (decimal_at alone 0 ≡ Value x c.stop)
-        go (Value y n) f g =
-            let m : from + n ≡ next = cc in
-            let z : y ≡ x = cc in
-            (record { stop = n; place = m; within = (decimal_placed alone 0 y n f).within }, f ∙ ap (λ (v : Float). Value v n) z)
-        go Unreadable f g = let z : ◌≡◌ {A = ℕ} 0 1 = cc in absurd (omega arith)
-        go TooLong f g = let z : ◌≡◌ {A = ℕ} 0 1 = cc in absurd (omega arith)
+        go : (d : Result (Parsed Float) NoDecimal) → decimal_at alone 0 ≡ d → decimal_moved from d ≡ Ok found
+            → (c : Cut found.next) × (decimal_at alone 0 ≡ Ok (parsed found.value c.stop))
+        go (Ok in_token) f g =
+            let p : parsed in_token.value (from + in_token.next) ≡ found = cc in
+            let m : from + in_token.next ≡ found.next = ap (λ (q : Parsed Float). q.next) p in
+            let z : in_token.value ≡ found.value = ap (λ (q : Parsed Float). q.value) p in (
+              record { stop = in_token.next; place = m; within = (decimal_placed alone 0 in_token f).within },
+              f ∙ ap (λ (v : Float). Ok (parsed v in_token.next)) z,
+            )
+        go (Err why) f g = cc
 
     -- a decimal ends inside its token
-    pub number_inside : (from ≤ next) × (next ≤ end)
-    number_inside = cut_inside next decimal_alone.0
+    pub number_inside : (from ≤ found.next) × (found.next ≤ end)
+    number_inside = cut_inside found.next decimal_alone.0
 
-  module _ (v next : ℕ) (e : int_at value_most s from ≡ Number v next) where
-    int_alone : (c : Cut next) × (int_at value_most alone 0 ≡ Number v c.stop)
+  module _ (found : Parsed ℕ) (e : int_at value_most s from ≡ Some found) where
+    int_alone : (c : Cut found.next) × (int_at value_most alone 0 ≡ Some (parsed found.value c.stop))
     int_alone = go (int_at value_most alone 0) refl (sym (int_token s from end (omega (arith, t.some)) t.stops value_most) ∙ e)
       where
-        go : (d : Int) → int_at value_most alone 0 ≡ d → int_moved from d ≡ Number v next → (c : Cut next) × (int_at value_most alone 0 ≡ Number v c.stop)
-        go (Number w n) f g =
-            let m : from + n ≡ next = cc in
-            let z : w ≡ v = cc in
-            (record { stop = n; place = m; within = (int_placed value_most alone 0 w n f).within }, f ∙ ap (λ (u : ℕ). Number u n) z)
-        go Absent f g = let z : ◌≡◌ {A = ℕ} 0 1 = cc in absurd (omega arith)
+        go : (d : Optional (Parsed ℕ)) → int_at value_most alone 0 ≡ d → int_moved from d ≡ Some found
+            → (c : Cut found.next) × (int_at value_most alone 0 ≡ Some (parsed found.value c.stop))
+        go (Some in_token) f g =
+            let p : parsed in_token.value (from + in_token.next) ≡ found = cc in
+            let m : from + in_token.next ≡ found.next = ap (λ (q : Parsed ℕ). q.next) p in
+            let z : in_token.value ≡ found.value = ap (λ (q : Parsed ℕ). q.value) p in (
+              record { stop = in_token.next; place = m; within = (int_placed value_most alone 0 in_token f).within },
+              f ∙ ap (λ (u : ℕ). Some (parsed u in_token.next)) z,
+            )
+        go None f g = cc
 
     -- a digit run ends inside its token
-    pub feedback_inside : (from ≤ next) × (next ≤ end)
-    feedback_inside = cut_inside next int_alone.0
+    pub feedback_inside : (from ≤ found.next) × (found.next ≤ end)
+    feedback_inside = cut_inside found.next int_alone.0
 
   module _ (mode : Mode) where
     -- the numbers of a text start with that of the token
@@ -106,22 +113,22 @@ module _ (s : List ℕ) (at from end : ℕ) (t : Token s at from end) where
         ap (λ (n : ℕ). numbers_read mode line (take n (tokens_of (drop at s)))) (let e : 1 + k ≡ suc k = omega arith in e)
         ∙ ap (λ (ts : List (List ℕ)). numbers_read mode line (take (suc k) ts)) t.tokens
 
-    pub number_passed : (x : Float) (next : ℕ) → decimal_at s from ≡ Value x next → tailed mode next end ≡ false → Passed mode s at (x ∷ []) end
+    pub number_passed : (found : Parsed Float) → decimal_at s from ≡ Ok found → tailed mode found.next end ≡ false → Passed mode s at (found.value ∷ []) end
     unfolding readable decimal_width ◌>>=◌ ◌>>◌
-    number_passed x next e f =
-        let c = decimal_alone x next e in
+    number_passed found e f =
+        let c = decimal_alone found e in
         record {
-          numbers = λ line k. first_number line k ∙ rw (c.1, read_through mode line alone _ (sym (cut_tailed mode next c.0) ∙ f));
+          numbers = λ line k. first_number line k ∙ rw (c.1, read_through mode line alone _ (sym (cut_tailed mode found.next c.0) ∙ f));
           tokens = ap (drop 1) t.tokens;
         }
 
-    pub number_tailed : (x : Float) (next : ℕ) → decimal_at s from ≡ Value x next → tailed mode next end ≡ true → Stopped mode s at 1 32
+    pub number_tailed : (found : Parsed Float) → decimal_at s from ≡ Ok found → tailed mode found.next end ≡ true → Stopped mode s at 1 32
     unfolding readable decimal_width ◌>>=◌ ◌>>◌
-    number_tailed x next e f line k =
-        let c = decimal_alone x next e in
-        first_number line k ∙ rw (c.1, read_tail mode line alone _ (sym (cut_tailed mode next c.0) ∙ f))
+    number_tailed found e f line k =
+        let c = decimal_alone found e in
+        first_number line k ∙ rw (c.1, read_tail mode line alone _ (sym (cut_tailed mode found.next c.0) ∙ f))
 
-    pub number_stopped : (d : Decimal) (n : ℕ) → decimal_at s from ≡ d → ((line : ℕ) → readable line d ≡ refused n line) → Stopped mode s at 1 n
+    pub number_stopped : (d : Result (Parsed Float) NoDecimal) (n : ℕ) → decimal_at s from ≡ d → ((line : ℕ) → readable line d ≡ refused n line) → Stopped mode s at 1 n
     unfolding ◌>>=◌
     number_stopped d n e f line k =
         let g : readable line (decimal_at alone 0) ≡ refused n line =
@@ -137,24 +144,24 @@ module _ (s : List ℕ) (at from end : ℕ) (t : Token s at from end) where
     unfolding feedback_read
     feedback_here line = ap (feedback_read mode line) t.tokens
 
-    module _ (line v next : ℕ) (e : int_at value_most s from ≡ Number v next) where
-      pub feedback_read_law : v ≤ 255 → tailed mode next end ≡ false → feedback_read mode line (tokens_of (drop at s)) ≡ going v
+    module _ (line : ℕ) (found : Parsed ℕ) (e : int_at value_most s from ≡ Some found) where
+      pub feedback_read_law : found.value ≤ 255 → tailed mode found.next end ≡ false → feedback_read mode line (tokens_of (drop at s)) ≡ going found.value
       unfolding present int_width ◌>>=◌ ◌>>◌ refuse◌on◌unless◌
       feedback_read_law h f =
-          let c = int_alone v next e in
-          feedback_here line ∙ rw (c.1, le-leb v 255 h, read_through mode line alone _ (sym (cut_tailed mode next c.0) ∙ f))
+          let c = int_alone found e in
+          feedback_here line ∙ rw (c.1, le-leb found.value 255 h, read_through mode line alone _ (sym (cut_tailed mode found.next c.0) ∙ f))
 
-      pub feedback_tailed : v ≤ 255 → tailed mode next end ≡ true → feedback_read mode line (tokens_of (drop at s)) ≡ refused 32 line
+      pub feedback_tailed : found.value ≤ 255 → tailed mode found.next end ≡ true → feedback_read mode line (tokens_of (drop at s)) ≡ refused 32 line
       unfolding present int_width ◌>>=◌ ◌>>◌ refuse◌on◌unless◌
       feedback_tailed h f =
-          let c = int_alone v next e in
-          feedback_here line ∙ rw (c.1, le-leb v 255 h, read_tail mode line alone _ (sym (cut_tailed mode next c.0) ∙ f))
+          let c = int_alone found e in
+          feedback_here line ∙ rw (c.1, le-leb found.value 255 h, read_tail mode line alone _ (sym (cut_tailed mode found.next c.0) ∙ f))
 
-      pub feedback_over : 255 < v → feedback_read mode line (tokens_of (drop at s)) ≡ refused 20 line
+      pub feedback_over : 255 < found.value → feedback_read mode line (tokens_of (drop at s)) ≡ refused 20 line
       unfolding present ◌>>=◌ ◌>>◌ refuse◌on◌unless◌
-      feedback_over h = feedback_here line ∙ rw ((int_alone v next e).1, lt-leb v 255 h)
+      feedback_over h = feedback_here line ∙ rw ((int_alone found e).1, lt-leb found.value 255 h)
 
-    pub feedback_absent : (line : ℕ) → int_at value_most s from ≡ Absent → feedback_read mode line (tokens_of (drop at s)) ≡ refused 18 line
+    pub feedback_absent : (line : ℕ) → int_at value_most s from ≡ None → feedback_read mode line (tokens_of (drop at s)) ≡ refused 18 line
     unfolding present ◌>>=◌
     feedback_absent line e =
         let g : present line (int_at value_most alone 0) ≡ refused 18 line =
@@ -192,54 +199,26 @@ module _ (mode : Mode) (s : List ℕ) (at next : ℕ) (xs : List Float) (p : Pas
       ∙ p.numbers line (m + k)
       ∙ ap (λ (o : Outcome (List Float)). o >>= (λ zs. going (xs ++ zs))) (q line k)
 
-  pub passed_left : length (tokens_of (drop next s)) ≡ length (tokens_of (drop at s)) - length xs
-  passed_left = ap length (sym p.tokens) ∙ length-drop (length xs) (tokens_of (drop at s))
-
 -- a refusal among the first tokens is one among more
 pub stopped_more : (mode : Mode) (s : List ℕ) (at m n j : ℕ) → Stopped mode s at m n → Stopped mode s at (m + j) n
 stopped_more mode s at m n j q line k =
     ap (λ (i : ℕ). numbers_read mode line (take i (tokens_of (drop at s)))) (let e : m + j + k ≡ m + (j + k) = omega arith in e) ∙ q line (j + k)
 
--- ---- the rest of a line whose six numbers are read
-
-module _ (mode : Mode) (line tabs above : ℕ) (o : Operator) (ts : List (List ℕ)) where
-  pub finished_refused : (n : ℕ) → feedback_read mode line ts ≡ refused n line → refused n line ≡ finished_read mode line tabs above o ts
-  unfolding finished_read ◌>>=◌
-  finished_refused n e = rw e
-
-  pub finished_full : (f : ℕ) → feedback_read mode line ts ≡ going f → 32 ≤ above → refused 21 line ≡ finished_read mode line tabs above o ts
-  unfolding finished_read ◌>>=◌ ◌>>◌ refuse◌on◌unless◌
-  finished_full f e h = rw (e, le-ltb above 32 h)
-
-  pub finished_read_law : (f : ℕ) → feedback_read mode line ts ≡ going f → above < 32
-      → going (record { indent = tabs; op = operator_of (numbers_of o) f }) ≡ finished_read mode line tabs above o ts
-  unfolding finished_read ◌>>=◌ ◌>>◌ refuse◌on◌unless◌
-  finished_read_law f e h = rw (e, lt-ltb above 32 h)
-
 -- ---- a line
 
 module _ (mode : Mode) (line : ℕ) (before : Option ℕ) (above : ℕ) (l : List ℕ) where
-  indented_refused : (n : ℕ) → indent_refusal before (indent_of l) ≡ suc n → indented line before (indent_of l) ≡ refused (suc n) line
-  unfolding indented
-  indented_refused n e = rw (e, indented)
-
-  pub line_indented : (n : ℕ) → indent_refusal before (indent_of l) ≡ n → 0 < n → refused n line ≡ operator_read mode line before above l
+  pub line_indented : (n : ℕ) → indented line before (indent_of l) ≡ refused n line → refused n line ≡ operator_read mode line before above l
   unfolding operator_read ◌>>◌
-  line_indented zero e h = absurd (omega arith)
-  line_indented (suc n) e h = rw (indented_refused n e)
+  line_indented n e = rw e
 
   -- past its indent
-  module _ (i : indent_refusal before (indent_of l) ≡ 0) where
-    indented_going : indented line before (indent_of l) ≡ going tt
-    unfolding indented
-    indented_going = rw (i, indented)
-
+  module _ (i : indented line before (indent_of l) ≡ going tt) where
     counted_wrong : (length (tokens_of l) ≡ 6 → ⊥) → (length (tokens_of l) ≡ 7 → ⊥) → (eqb (length (tokens_of l)) 6 || eqb (length (tokens_of l)) 7) ≡ false
     counted_wrong f g = rw (ne_eqb (length (tokens_of l)) 6 f, ne_eqb (length (tokens_of l)) 7 g)
 
     pub line_counted : (length (tokens_of l) ≡ 6 → ⊥) → (length (tokens_of l) ≡ 7 → ⊥) → refused 17 line ≡ operator_read mode line before above l
     unfolding operator_read ◌>>◌ refuse◌on◌unless◌
-    line_counted f g = rw (indented_going, counted_wrong f g)
+    line_counted f g = rw (i, counted_wrong f g)
 
     -- and with six tokens or seven
     module _ (few : 6 ≤ length (tokens_of l)) (many : length (tokens_of l) ≤ 7) where
@@ -252,13 +231,23 @@ module _ (mode : Mode) (line : ℕ) (before : Option ℕ) (above : ℕ) (l : Lis
 
       pub line_stopped : (n : ℕ) → Stopped mode l 0 6 n → refused n line ≡ operator_read mode line before above l
       unfolding operator_read ◌>>=◌ ◌>>◌ refuse◌on◌unless◌
-      line_stopped n q = rw (indented_going, counted_right, q line 0)
+      line_stopped n q = rw (i, counted_right, q line 0)
 
       module _ (o : Operator) (next : ℕ) (p : Passed mode l 0 (numbers_of o) next) where
         numbers_all : numbers_read mode line (take 6 (tokens_of l)) ≡ going (numbers_of o)
         unfolding numbers_read ◌>>=◌
         numbers_all = p.numbers line 0
 
-        pub line_passed : finished_read mode line (indent_of l) above o (tokens_of (drop next l)) ≡ operator_read mode line before above l
-        unfolding operator_read finished_read ◌>>=◌ ◌>>◌ refuse◌on◌unless◌
-        line_passed = rw (indented_going, counted_right, numbers_all, p.tokens)
+        pub line_unfed : (n : ℕ) → feedback_read mode line (tokens_of (drop next l)) ≡ refused n line
+            → refused n line ≡ operator_read mode line before above l
+        unfolding operator_read ◌>>=◌ ◌>>◌ refuse◌on◌unless◌
+        line_unfed n e = rw (i, counted_right, numbers_all, p.tokens, e)
+
+        module _ (f : ℕ) (e : feedback_read mode line (tokens_of (drop next l)) ≡ going f) where
+          pub line_full : 32 ≤ above → refused 21 line ≡ operator_read mode line before above l
+          unfolding operator_read ◌>>=◌ ◌>>◌ refuse◌on◌unless◌
+          line_full h = rw (i, counted_right, numbers_all, p.tokens, e, le-ltb above 32 h)
+
+          pub line_read : above < 32 → going (record { indent = indent_of l; op = operator_of (numbers_of o) f }) ≡ operator_read mode line before above l
+          unfolding operator_read ◌>>=◌ ◌>>◌ refuse◌on◌unless◌
+          line_read h = rw (i, counted_right, numbers_all, p.tokens, e, lt-ltb above 32 h)

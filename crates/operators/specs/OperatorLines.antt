@@ -1,6 +1,6 @@
 -- Operator lines, as document 01 has them: which lines below a header are an instrument's, what one of them says, and its refusals in their order.
 -- What the lines come to, commands and a release, stands in `tree`'s `specs/Lines.antt`. Assumes nothing.
-use Rattle.std.specs.Prelude.{Bool, true, false, ◌||◌, leb, ltb, length, take, drop, get_or, Float}
+use Rattle.std.specs.Prelude.{Bool, true, false, ◌||◌, leb, ltb, length, take, drop, get_or, Float, Option as Optional, Some, None, Result, Ok, Err}
 use mathlib.Core.List.{List, [], ◌∷◌}
 use Rattle.std.proofs.Math.Option.{Option, some}
 use Prim.Native.Nat.{ℕ, zero, suc, ◌+◌}
@@ -10,10 +10,9 @@ use Rattle.text.specs.Blanks.{is_blank}
 use Rattle.text.specs.Characters.{is}
 use Rattle.text.specs.Fronts.{front, after}
 use Rattle.lines.specs.Tokens.{tokens_of}
-use Rattle.number.specs.declared.digits.Int.{Int}
-use Rattle.number.specs.declared.digits.Int.TheVariants.{Number, Absent}
-use Rattle.number.specs.declared.decimal.Decimal.{Decimal}
-use Rattle.number.specs.declared.decimal.Decimal.TheVariants.{Value, Unreadable, TooLong}
+use Rattle.text.specs.declared.parsed.Parsed.{Parsed}
+use Rattle.number.specs.declared.decimal.NoDecimal.{NoDecimal}
+use Rattle.number.specs.declared.decimal.NoDecimal.TheVariants.{Unreadable, TooLong}
 use Rattle.number.specs.Digits.{value_most, int_at, int_width}
 use Rattle.number.specs.Decimal.{decimal_at, decimal_width}
 use Rattle.operator.specs.declared.operator.Operator.{Operator}
@@ -68,15 +67,15 @@ module _ (line : ℕ) where
   indented before i = elim (indent_refusal before i) [ zero ↦ going tt | suc n ↦ refused (suc n) line ]
 
   -- "18 before 19"
-  unfoldable pub readable : Decimal → Outcome Float
-  readable (Value x next) = going x
-  readable Unreadable = refused 18 line
-  readable TooLong = refused 19 line
+  unfoldable pub readable : Result (Parsed Float) NoDecimal → Outcome Float
+  readable (Ok found) = going found.value
+  readable (Err Unreadable) = refused 18 line
+  readable (Err TooLong) = refused 19 line
 
   -- "18 if absent or over 4,294,967,295"
-  unfoldable pub present : Int → Outcome ℕ
-  present (Number v next) = going v
-  present Absent = refused 18 line
+  unfoldable pub present : Optional (Parsed ℕ) → Outcome ℕ
+  present (Some found) = going found.value
+  present None = refused 18 line
 
 module _ (mode : Mode) (line : ℕ) where
   -- "numbers left to right"; "What follows is ignored in an operator token" in plain mode, and is 32 in strict mode, "right after 18, 19"

@@ -1,32 +1,24 @@
 -- `three_at` chains three numbers: what is read goes in front, and a refusal ends the reading. Assumes nothing.
-use mathlib.Core.Path.{subst}
-use mathlib.Core.List.{[], ◌∷◌}
-use native.Mathlib.Omega.{arith}
-use Rattle.operators.specs.Steps.{Passed, Numbered}
-use Rattle.operators.proofs.Steps.{passed_more, passed_stopped, passed_left, stopped_more}
-use borrow.Author.Rules.{rules}
+use Rattle.std.proofs.lemmas.Result.{err_from_is_err_and}
+use Rattle.operators.proofs.Steps.{passed_more, passed_stopped, stopped_more}
 use Rattle.operators.proofs.line.three_at.Goals as goal
 
-pub returns-in-Refused : goal.returns-in-Refused
-returns-in-Refused c =
-    let a = c.args in
-    stopped_more _ a.text.now a.at 1 _ 2 (subst (Numbered _ _ _) c.in-Refused.is c.number_at-first.ensures)
+pub returns-in_err-first : goal.returns-in_err-first
+returns-in_err-first c =
+    let p = err_from_is_err_and c.from_residual.result c.from_residual.ensures.1 in
+    rw (p.1, p.2) (stopped_more _ c.args.text.now c.args.at 1 _ 2 c.in_err-first.ensures)
 
-pub number_at-second-requires : goal.number_at-second-requires
-number_at-second-requires c = omega (arith, passed_left _ _ _ _ _ ((let it : Passed c.args.mode c.args.text.now c.args.at (c.in-Is.x ∷ []) c.in-Is.behind_x = subst (Numbered _ _ _) c.in-Is.is c.number_at-first.ensures in it)))
+pub returns-in_err-second : goal.returns-in_err-second
+returns-in_err-second c =
+    let p = err_from_is_err_and c.from_residual-in_err-second.result c.from_residual-in_err-second.ensures.1 in
+    rw (p.1, p.2)
+    (passed_stopped _ _ _ _ _ c.in_ok-first.ensures 2 _ (stopped_more _ c.args.text.now c.in_ok-first.first.next 1 _ 1 c.in_err-second.ensures))
 
-pub returns-in-Refused-second : goal.returns-in-Refused-second
-returns-in-Refused-second c =
-    passed_stopped _ _ _ _ _ ((let it : Passed c.args.mode c.args.text.now c.args.at (c.in-Is.x ∷ []) c.in-Is.behind_x = subst (Numbered _ _ _) c.in-Is.is c.number_at-first.ensures in it)) 2 _
-    (stopped_more _ c.args.text.now c.in-Is.behind_x 1 _ 1 (subst (Numbered _ _ _) c.in-Refused-second.is c.number_at-second.ensures))
+pub returns-in_err-third : goal.returns-in_err-third
+returns-in_err-third c =
+    let p = err_from_is_err_and c.from_residual-in_err-third.result c.from_residual-in_err-third.ensures.1 in
+    rw (p.1, p.2)
+    (passed_stopped _ _ _ _ _ (passed_more _ _ _ _ _ c.in_ok-first.ensures _ _ c.in_ok-second.ensures) 1 _ c.in_err-third.ensures)
 
-pub number_at-third-requires : goal.number_at-third-requires
-number_at-third-requires c = omega (arith, passed_left _ _ _ _ _ ((let it : Passed c.args.mode c.args.text.now c.args.at (c.in-Is.x ∷ c.in-Is-second.y ∷ []) c.in-Is-second.behind_y = passed_more _ _ _ _ _ ((let it : Passed c.args.mode c.args.text.now c.args.at (c.in-Is.x ∷ []) c.in-Is.behind_x = subst (Numbered _ _ _) c.in-Is.is c.number_at-first.ensures in it)) _ _ (subst (Numbered _ _ _) c.in-Is-second.is c.number_at-second.ensures) in it)))
-
-pub returns-in-Refused-third : goal.returns-in-Refused-third
-returns-in-Refused-third c =
-    passed_stopped _ _ _ _ _ ((let it : Passed c.args.mode c.args.text.now c.args.at (c.in-Is.x ∷ c.in-Is-second.y ∷ []) c.in-Is-second.behind_y = passed_more _ _ _ _ _ ((let it : Passed c.args.mode c.args.text.now c.args.at (c.in-Is.x ∷ []) c.in-Is.behind_x = subst (Numbered _ _ _) c.in-Is.is c.number_at-first.ensures in it)) _ _ (subst (Numbered _ _ _) c.in-Is-second.is c.number_at-second.ensures) in it)) 1 _ (subst (Numbered _ _ _) c.in-Refused-third.is c.number_at-third.ensures)
-
-pub returns-in-Is-third : goal.returns-in-Is-third
-returns-in-Is-third c =
-    passed_more _ _ _ _ _ ((let it : Passed c.args.mode c.args.text.now c.args.at (c.in-Is.x ∷ c.in-Is-second.y ∷ []) c.in-Is-second.behind_y = passed_more _ _ _ _ _ ((let it : Passed c.args.mode c.args.text.now c.args.at (c.in-Is.x ∷ []) c.in-Is.behind_x = subst (Numbered _ _ _) c.in-Is.is c.number_at-first.ensures in it)) _ _ (subst (Numbered _ _ _) c.in-Is-second.is c.number_at-second.ensures) in it)) _ _ (subst (Numbered _ _ _) c.in-Is-third.is c.number_at-third.ensures)
+pub returns : goal.returns
+returns c = passed_more _ _ _ _ _ (passed_more _ _ _ _ _ c.in_ok-first.ensures _ _ c.in_ok-second.ensures) _ _ c.in_ok-third.ensures
