@@ -162,7 +162,8 @@ pub fn operator(
     above: usize,
     mode: Mode,
 ) -> Result<OperatorLine, Refusal>
-    ensures { (line : ℕ) → outcome_of line result ≡ operator_read mode line (indent_above above before) above text.now }
+    ensures { (line : ℕ) → outcome_of line result
+        ≡ operator_read mode line (indent_above above before) above text.now }
 {
     let indent = indent(text);
     check_indent(indent, before, above)?;
