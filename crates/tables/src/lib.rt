@@ -1,5 +1,5 @@
-// The tables of macros and of instruments' names (the Rust's `HashMap`s), in order of appearance: names are places in the
-// source.
+// The tables of macros and of instruments' names (the Rust's `HashMap`s), in order of appearance: names are places in
+// the source.
 
 #![tactic(auto)]
 

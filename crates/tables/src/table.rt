@@ -1,5 +1,5 @@
-// A line that adds an entry to a table: a macro's line, and an instrument's header. One that is refused leaves the table as
-// it was.
+// A line that adds an entry to a table: a macro's line, and an instrument's header. One that is refused leaves the
+// table as it was.
 
 ghost use Rattle.std.specs.Prelude.{◌≡◌, ℕ, ◌+◌, ◌*◌, ◌≤◌, ◌<◌, ltb, length, take};
 ghost use Rattle.lines.specs.Names.{names_in, place_among};
@@ -34,8 +34,8 @@ fn put_entry(table: &mut [usize], count: usize, a: usize, b: usize)
     table[at + 1] = b;
 }
 
-// A macro's line, from `from` to `end` of the source: refused where it has under two tokens, where its name is taken, and
-// where there are 64 macros.
+// A macro's line, from `from` to `end` of the source: refused where it has under two tokens, where its name is taken,
+// and where there are 64 macros.
 pub fn macro_line(
     source: &[u8],
     from: usize,
@@ -76,8 +76,8 @@ pub fn macro_line(
     Ok(())
 }
 
-// An instrument's header, from `from` to `end` of the source: refused where its name is taken, and where there are 32 with
-// the default one.
+// An instrument's header, from `from` to `end` of the source: refused where its name is taken, and where there are 32
+// with the default one.
 pub fn header_line(
     source: &[u8],
     from: usize,
@@ -85,7 +85,8 @@ pub fn header_line(
     names: &mut [usize],
     count: usize,
 ) -> Result<(), Refusal>
-    ensures number { (line : ℕ) → number_told result ≡ number_of (header_line line source.now from end count names.old) }
+    ensures number { (line : ℕ) →
+        number_told result ≡ number_of (header_line line source.now from end count names.old) }
     ensures names { (line : ℕ) →
         let said = header_line line source.now from end count names.old in
         names.new ≡ headers_after said source.now from end count names.old }
