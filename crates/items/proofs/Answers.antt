@@ -3,34 +3,34 @@
 use mathlib.Core.Path.{◌≡◌, refl, sym, ap, ap₂, ◌∙◌}
 use mathlib.Core.Bool.{Bool, true, false}
 use mathlib.Core.List.{List}
-use Prim.Native.Nat.{ℕ, ◌+◌, ◌-◌, ◌≤◌, ◌<◌}
+use Prim.Native.Nat.{ℕ, ◌+◌, ◌-◌}
 use native.Mathlib.Omega.{arith}
 use lib.Dec.{leb}
-use lib.ListN.{length, drop}
+use lib.ListN.{length}
 use borrow.Author.Tests.{leb-true, leb-false}
-use Rattle.number.specs.declared.digits.Int.{Int}
+use Rattle.std.specs.Prelude.{Option as Answer}
+use Rattle.text.specs.declared.parsed.Parsed.{Parsed}
+use Rattle.text.specs.Parsed.{parsed, next_or}
 use Rattle.number.specs.Digits.{value_most, count_most, int_at}
 use Rattle.number.specs.Decimal.{decimal_at}
-use Rattle.keys.specs.declared.key.Mark.{Mark}
+use Rattle.keys.specs.declared.key.Accidental.{Accidental}
 use Rattle.keys.specs.Keys.{note_mark_at, key_at}
 use Rattle.items.specs.declared.item.Item.{Item}
-use Rattle.items.specs.declared.item.Item.TheVariants as Item
-use Rattle.items.specs.declared.item.Found.{Found}
 use Rattle.items.specs.Items as Items
-use Rattle.items.specs.Written.{item_of, found_of, mark_end, Inside, FoundAt}
+use Rattle.items.specs.Written.{item_of, found_of, Inside, FoundAt}
 
 -- ---- the item
 
 module _ (text : List ℕ) (at : ℕ) where
-  abbrev mark_there : Mark
+  abbrev mark_there : Answer (Parsed Accidental)
   mark_there = note_mark_at text (at + 1)
 
-  abbrev note : ℕ → Mark → Int → Bool → Item
+  abbrev note : ℕ → Answer (Parsed Accidental) → Answer (Parsed ℕ) → Bool → Item
   note letter m v d = Item.Note (record { letter = letter; accidental = m; value = v; dotted = d })
 
   -- the code's item for one of the definition, with what the readers answer at their places
   unfoldable written_as : Items.Item → Item
-  written_as (Items.note letter a v d) = note letter mark_there (int_at value_most text (mark_end (at + 1) mark_there)) d
+  written_as (Items.note letter a v d) = note letter mark_there (int_at value_most text (next_or (at + 1) mark_there)) d
   written_as Items.up = Item.Up
   written_as Items.down = Item.Down
   written_as Items.opening = Item.Opening
@@ -48,8 +48,8 @@ module _ (text : List ℕ) (at : ℕ) where
   written_is : (next : ℕ) (i : Item) → Inside text at i → i ≡ written_as (item_of text at next i)
   unfolding Inside item_of written_as
   written_is next (Item.Note n) h =
-      ap₂ (λ (m : Mark) (v : Int). note n.letter m v n.dotted) h.0
-      (h.1 ∙ ap (λ (m : Mark). int_at value_most text (mark_end (at + 1) m)) h.0)
+      ap₂ (λ (m : Answer (Parsed Accidental)) (v : Answer (Parsed ℕ)). note n.letter m v n.dotted) h.0
+      (h.1 ∙ ap (λ (m : Answer (Parsed Accidental)). int_at value_most text (next_or (at + 1) m)) h.0)
   written_is next Item.Up h = refl
   written_is next Item.Down h = refl
   written_is next Item.Opening h = refl
@@ -66,16 +66,16 @@ module _ (text : List ℕ) (at : ℕ) where
 
 -- ---- the answer
 
-module _ (text : List ℕ) (at : ℕ) (r q : Found) (h : FoundAt text at r) (k : FoundAt text at q) where
+module _ (text : List ℕ) (at : ℕ) (r q : Parsed Item) (h : FoundAt text at r) (k : FoundAt text at q) where
   told : found_of text at r ≡ found_of text at q
   told = h.meant ∙ sym k.meant
 
-  item_same : r.item ≡ q.item
+  item_same : r.value ≡ q.value
   unfolding found_of
   item_same =
-      written_is text at r.next r.item h.inside
+      written_is text at r.next r.value h.inside
       ∙ ap (λ (f : Items.Found). written_as text at f.item) told
-      ∙ sym (written_is text at q.next q.item k.inside)
+      ∙ sym (written_is text at q.next q.value k.inside)
 
   next_same : r.next ≡ q.next
   unfolding found_of
@@ -88,4 +88,4 @@ module _ (text : List ℕ) (at : ℕ) (r q : Found) (h : FoundAt text at r) (k :
     go false e = let l = leb-false (length text) at e in omega (arith, width, (h.onward l).0, (k.onward l).0)
 
   pub found_same : r ≡ q
-  found_same = ap₂ (λ (i : Item) (n : ℕ). let f : Found = record { item = i; next = n } in f) item_same next_same
+  found_same = ap₂ (λ (i : Item) (n : ℕ). parsed i n) item_same next_same

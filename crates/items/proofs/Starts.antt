@@ -5,6 +5,7 @@ use Prim.Native.Nat.{ℕ, suc, ◌+◌, ◌-◌, ◌≤◌, ◌<◌}
 use native.Mathlib.Omega.{arith}
 use lib.ListN.{length, drop, get_or, drop_of_length-le}
 use lib.Seq.{drop-cons}
+use Rattle.text.specs.Parsed.{parsed}
 use Rattle.items.specs.declared.item.Item.TheVariants as Item
 use Rattle.items.specs.Items.{found, unknown, item_at, item_on}
 use Rattle.items.specs.Written.{item_of, found_of}
@@ -17,7 +18,7 @@ module _ (text : List ℕ) (at : ℕ) where
       ap item_on (drop-cons text at 0 h) ∙ ap (λ (j : ℕ). item_at (get_or text at 0) (drop j text)) (let z : suc at ≡ at + 1 = omega arith in z)
 
   -- none does
-  pub item_past : length text ≤ at → found_of text at (record { item = Item.Unknown; next = at }) ≡ item_on (drop at text)
+  pub item_past : length text ≤ at → found_of text at (parsed Item.Unknown at) ≡ item_on (drop at text)
   unfolding found_of item_of item_on
   item_past h =
       ap (λ (w : ℕ). found unknown w) (let z : at - (at + 1) ≡ 0 = omega arith in z) ∙ ap item_on (let z : [] ≡ drop at text = sym (drop_of_length-le text h) in z)

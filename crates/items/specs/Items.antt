@@ -1,22 +1,18 @@
 -- The items of a body: notes, commands, marks and macro calls, as they are written. What an item does stands in `Body.antt`. Document 01: "Blank runs
 -- separate and do nothing. `;` ends the body"; "`@` and `!` names run to the next blank." Assumes nothing.
-use Rattle.std.specs.Prelude.{Bool, true, false, ◌||◌, List, [], ◌∷◌, ℕ, zero, suc, ◌+◌, length, drop}
-use Rattle.std.proofs.Math.Option.{Option, none, some}
+use Rattle.std.specs.Prelude.{Option as Answer, Bool, true, false, ◌||◌, List, [], ◌∷◌, ℕ, zero, suc, ◌+◌, length, drop}
+use Rattle.std.proofs.Math.Option.{Option}
 use Prim.Native.Char.{Char}
 use Rattle.text.specs.Blanks.{is_blank, is_ink}
 use Rattle.text.specs.Characters.{is, starts_with, begins, row_of}
 use Rattle.text.specs.Fronts.{front}
-use Rattle.number.specs.declared.digits.Int.{Int}
-use Rattle.number.specs.declared.digits.Int.TheVariants.{Number, Absent}
+use Rattle.text.specs.declared.parsed.Parsed.{Parsed}
+use Rattle.text.specs.Parsed.{next_or}
 use Rattle.number.specs.Digits.{value_most, count_most, int_at, int_width}
 use Rattle.number.specs.Decimal.{decimal_at, decimal_width}
 use Rattle.keys.specs.declared.key.Accidental.{Accidental}
-use Rattle.keys.specs.declared.key.Mark.{Mark}
-use Rattle.keys.specs.declared.key.Mark.TheVariants.{With, Without}
 use Rattle.keys.specs.declared.key.Key.{Key}
-use Rattle.keys.specs.declared.key.KeyAt.{KeyAt}
-use Rattle.keys.specs.declared.key.KeyAt.TheVariants.{Found as KeyFound, Absent as NoKey}
-use Rattle.keys.specs.Keys.{is_key_letter, note_mark_at, key_at}
+use Rattle.keys.specs.Keys.{is_key_letter, note_mark_at, key_at, accidental_found, key_found, key_width}
 use Rattle.environment.specs.Ranges.{Amount, digit_run, amount_of}
 
 -- an item of a body, as it is written
@@ -56,16 +52,14 @@ dotted letter a v at s =
     elim (begins "." (drop at s)) [ true ↦ found (note letter a v true) (at + 1) | false ↦ found (note letter a v false) at ]
 
 -- the value behind an accidental that ends at `at`: "An absent value, or a digit run over 4,294,967,295, takes the default and reads no digit."
-unfoldable pub valued : ℕ → Option Accidental → ℕ → Int → List ℕ → Found
-unfolding dotted
-valued letter a at (Number v next) s = dotted letter a (some v) next s
-valued letter a at Absent s = dotted letter a none at s
+unfoldable pub valued : ℕ → Option Accidental → ℕ → Answer (Parsed ℕ) → List ℕ → Found
+unfolding dotted digit_run
+valued letter a at n s = dotted letter a (digit_run n) (next_or at n) s
 
 -- an accidental or none, then a value
-unfoldable pub marked_note : ℕ → Mark → List ℕ → Found
-unfolding int_at valued
-marked_note letter (With a next) s = valued letter (some a) next (int_at value_most s next) s
-marked_note letter Without s = valued letter none 0 (int_at value_most s 0) s
+unfoldable pub marked_note : ℕ → Answer (Parsed Accidental) → List ℕ → Found
+unfolding int_at valued accidental_found
+marked_note letter m s = valued letter (accidental_found m) (next_or 0 m) (int_at value_most s (next_or 0 m)) s
 
 unfoldable pub note_at : ℕ → List ℕ → Found
 unfolding note_mark_at marked_note
@@ -79,13 +73,13 @@ is_note_letter b = is_key_letter b || is "r" b
 -- ---- commands
 
 -- `o`, `l`, `t` and `]`, which take a digit run
-abbrev pub numbered : (Option ℕ → Item) → Int → Found
+abbrev pub numbered : (Option ℕ → Item) → Answer (Parsed ℕ) → Found
 numbered make n = found (make (digit_run n)) (int_width n)
 
 -- `k` and its key; the key's bytes are passed over where there is one
-unfoldable pub key_item : KeyAt → Found
-key_item (KeyFound k next) = found (key (some k)) next
-key_item NoKey = found (key none) 0
+unfoldable pub key_item : Answer (Parsed Key) → Found
+unfolding key_found key_width
+key_item k = found (key (key_found k)) (key_width k)
 
 -- "`@` and `!` names run to the next blank"
 unfoldable pub named : (List ℕ → Item) → ℕ → List ℕ → Found

@@ -1,7 +1,6 @@
 -- `item_at` is `found_at` where a byte stands, and past the end nothing is passed over. Assumes nothing.
 use mathlib.Core.Path.{refl, sym, ◌∙◌}
 use native.Mathlib.Omega.{arith}
-use borrow.Author.Rules.{rules}
 use Rattle.items.specs.Written.{Inside}
 use Rattle.items.proofs.Starts.{item_there, item_past}
 use Rattle.items.proofs.item.item_at.Goals as goal

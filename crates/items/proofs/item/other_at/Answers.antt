@@ -1,96 +1,44 @@
 -- `other_at` goes through the table's last rows: at each the table computes, and the laws of `Commands` say what is found there. Assumes nothing.
-use mathlib.Core.Path.{◌∙◌}
+use Rattle.std.proofs.Common.{refl, arith, ap, ◌∙◌}
+use Rattle.text.specs.Parsed.{next_or}
+use Rattle.items.specs.declared.item.Item.TheVariants as Written
 use Rattle.items.specs.Items.{instrument, call, unknown}
 use Rattle.items.specs.Steps.{rows_from}
-use Rattle.items.specs.Written.{found_of, Inside}
-use Rattle.items.proofs.Commands.{amplitude_found, key_found_law, named_found, alone_found, rows_at, past_all}
-use Rattle.items.proofs.Commands.{decimal_end_of, key_end_of, named_end, alone_end}
-use borrow.Author.Rules.{rules}
+use Rattle.items.specs.Written.{item_of, Inside}
+use Rattle.items.proofs.Commands.{stands_as, alone_stands, amplitude_stands, key_stands, name_stands, rows_at, past_all}
 use Rattle.items.proofs.item.other_at.Goals as goal
 
-pub returns-then-b-eq118-clause-meant : goal.returns-then-b-eq118-clause-meant
-unfolding found_of Inside rows_from
-returns-then-b-eq118-clause-meant c =
+pub returns-in-118 : goal.returns-in-118
+unfolding rows_from
+returns-in-118 c =
     let a = c.args in
-    let e = c.eat_float-d.ensures in amplitude_found a.text.now a.at _ _ e c.decimal_end-next.ensures ∙ rows_at 8 a.b 118 _ c.if-b-eq118.true
+    stands_as _ _ _ _ _ (rows_at 8 a.b 118 _ c.in-118.is)
+    (amplitude_stands a.text.now a.at c.requires.0 _ _ c.eat_float-amplitude.ensures (c.next_or.ensures ∙ ap (next_or _) c.ok.ensures.value))
 
-pub returns-then-b-eq118-clause-onward : goal.returns-then-b-eq118-clause-onward
-unfolding found_of Inside rows_from
-returns-then-b-eq118-clause-onward c =
+pub returns-in-107 : goal.returns-in-107
+unfolding rows_from
+returns-in-107 c =
     let a = c.args in
-    let e = c.eat_float-d.ensures in decimal_end_of a.text.now a.at _ c.requires.0 _ e c.decimal_end-next.ensures
+    stands_as _ _ _ _ _ (rows_at 8 a.b 107 _ c.in-107.is)
+    (key_stands a.text.now a.at c.requires.0 _ _ c.key_at-key.ensures c.next_or-in-107.ensures)
 
-pub returns-then-b-eq118-clause-inside : goal.returns-then-b-eq118-clause-inside
-unfolding found_of Inside rows_from
-returns-then-b-eq118-clause-inside c =
+pub returns-in-64 : goal.returns-in-64
+unfolding rows_from item_of Inside
+returns-in-64 c =
     let a = c.args in
-    let e = c.eat_float-d.ensures in e
+    stands_as _ _ _ _ _ (rows_at 8 a.b 64 _ c.in-64.is)
+    (name_stands a.text.now a.at c.requires.0 a.b _ c.requires.1 c.ink_end.ensures Written.Instrument instrument 64 c.in-64.is refl tt)
 
-pub returns-then-b-eq107-clause-meant : goal.returns-then-b-eq107-clause-meant
-unfolding found_of Inside rows_from
-returns-then-b-eq107-clause-meant c =
+pub returns-in-33 : goal.returns-in-33
+unfolding rows_from item_of Inside
+returns-in-33 c =
     let a = c.args in
-    let e = c.key_at-k.ensures in key_found_law a.text.now a.at _ _ e c.key_end-next.ensures ∙ rows_at 8 a.b 107 _ c.if-b-eq107.true
+    stands_as _ _ _ _ _ (rows_at 8 a.b 33 _ c.in-33.is)
+    (name_stands a.text.now a.at c.requires.0 a.b _ c.requires.1 c.ink_end-in-33.ensures Written.Call call 33 c.in-33.is refl tt)
 
-pub returns-then-b-eq107-clause-onward : goal.returns-then-b-eq107-clause-onward
-unfolding found_of Inside rows_from
-returns-then-b-eq107-clause-onward c =
+pub returns-in_default : goal.returns-in_default
+unfolding item_of Inside
+returns-in_default c =
     let a = c.args in
-    let e = c.key_at-k.ensures in key_end_of a.text.now a.at _ c.requires.0 _ e c.key_end-next.ensures
-
-pub returns-then-b-eq107-clause-inside : goal.returns-then-b-eq107-clause-inside
-unfolding found_of Inside rows_from
-returns-then-b-eq107-clause-inside c =
-    let a = c.args in
-    let e = c.key_at-k.ensures in e
-
-pub returns-then-b-eq64-clause-meant : goal.returns-then-b-eq64-clause-meant
-unfolding found_of Inside rows_from
-returns-then-b-eq64-clause-meant c =
-    let a = c.args in
-    let e = c.if-b-eq64.true in named_found a.text.now a.at a.b _ c.requires.0 c.requires.1 c.ink_end-name_end.ensures instrument 64 e ∙ rows_at 8 a.b 64 _ e
-
-pub returns-then-b-eq64-clause-onward : goal.returns-then-b-eq64-clause-onward
-unfolding found_of Inside rows_from
-returns-then-b-eq64-clause-onward c =
-    let a = c.args in
-    let e = c.if-b-eq64.true in named_end a.text.now a.at a.b _ c.requires.0 c.requires.1 c.ink_end-name_end.ensures
-
-pub returns-then-b-eq64-clause-inside : goal.returns-then-b-eq64-clause-inside
-unfolding found_of Inside rows_from
-returns-then-b-eq64-clause-inside c =
-    let a = c.args in
-    let e = c.if-b-eq64.true in tt
-
-pub returns-then-b-eq33-clause-meant : goal.returns-then-b-eq33-clause-meant
-unfolding found_of Inside rows_from
-returns-then-b-eq33-clause-meant c =
-    let a = c.args in
-    let e = c.if-b-eq33.true in named_found a.text.now a.at a.b _ c.requires.0 c.requires.1 c.ink_end-call_end.ensures call 33 e ∙ rows_at 8 a.b 33 _ e
-
-pub returns-then-b-eq33-clause-onward : goal.returns-then-b-eq33-clause-onward
-unfolding found_of Inside rows_from
-returns-then-b-eq33-clause-onward c =
-    let a = c.args in
-    let e = c.if-b-eq33.true in named_end a.text.now a.at a.b _ c.requires.0 c.requires.1 c.ink_end-call_end.ensures
-
-pub returns-then-b-eq33-clause-inside : goal.returns-then-b-eq33-clause-inside
-unfolding found_of Inside rows_from
-returns-then-b-eq33-clause-inside c =
-    let a = c.args in
-    let e = c.if-b-eq33.true in tt
-
-pub returns-clause-meant : goal.returns-clause-meant
-unfolding found_of Inside
-returns-clause-meant c =
-    let a = c.args in alone_found a.at unknown ∙ past_all a.b _ c.if-b-eq118.false c.if-b-eq107.false c.if-b-eq64.false c.if-b-eq33.false
-
-pub returns-clause-onward : goal.returns-clause-onward
-unfolding found_of Inside
-returns-clause-onward c =
-    let a = c.args in alone_end a.text.now a.at c.requires.0
-
-pub returns-clause-inside : goal.returns-clause-inside
-unfolding found_of Inside
-returns-clause-inside c =
-    let a = c.args in tt
+    stands_as _ _ _ _ _ (past_all a.b _ (λ e. omega (arith, e)) (λ e. omega (arith, e)) (λ e. omega (arith, e)) (λ e. omega (arith, e)))
+    (alone_stands a.text.now a.at c.requires.0 Written.Unknown unknown refl tt)
