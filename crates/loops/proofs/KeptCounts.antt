@@ -1,7 +1,7 @@
 -- Laws of a loop as the code keeps it: how many notes come in its last pass, and whether it has a count. Assumes nothing.
 use mathlib.Core.Path.{◌≡◌, refl}
 use mathlib.Core.Option.{Option, none, some}
-use Prim.Native.Nat.{ℕ, zero, suc, ◌-◌, ◌≤◌, ◌<◌}
+use Prim.Native.Nat.{ℕ, zero, suc, ◌-◌, ◌≤◌, ◌<◌, min}
 use native.Mathlib.Omega.{arith}
 use Rattle.loops.specs.Loops.{counted, cut_of, last_count, times_of}
 
@@ -11,20 +11,10 @@ pub last_all : (start cut m : ℕ) → cut ≡ 0 → (m ≡ last_count start (cu
 unfolding last_count cut_of
 last_all start cut m e = (rw e, omega arith)
 
-pub last_none : (start cut m : ℕ) → (cut ≡ 0 → ⊥) → cut - 1 ≤ start → (0 ≡ last_count start (cut_of cut) m) × (0 ≤ m)
+pub last_before : (start cut m n : ℕ) → 0 < cut → n ≡ min (cut - 1 - start) m → (n ≡ last_count start (cut_of cut) m) × (n ≤ m)
 unfolding last_count cut_of
-last_none start zero m f h = absurd (f refl)
-last_none start (suc k) m f h = (omega arith, omega arith)
-
-pub last_over : (start cut m : ℕ) → (cut ≡ 0 → ⊥) → m < cut - 1 - start → (m ≡ last_count start (cut_of cut) m) × (m ≤ m)
-unfolding last_count cut_of
-last_over start zero m f h = absurd (f refl)
-last_over start (suc k) m f h = (omega arith, omega arith)
-
-pub last_before : (start cut m : ℕ) → (cut ≡ 0 → ⊥) → cut - 1 - start ≤ m → (cut - 1 - start ≡ last_count start (cut_of cut) m) × (cut - 1 - start ≤ m)
-unfolding last_count cut_of
-last_before start zero m f h = absurd (f refl)
-last_before start (suc k) m f h = (omega arith, omega arith)
+last_before start zero m n h e = absurd (omega arith)
+last_before start (suc k) m n h e = (omega arith, omega arith)
 
 -- ---- its count
 

@@ -173,28 +173,29 @@ module _ {A : Type 0} (xs₀ : List A) (start n end : ℕ) (some : start < n) (i
   pub repeat_start : Repeating xs₀ start n end xs₀ n
   repeat_start = record { low = omega arith; high = omega arith; long = refl; front = sym (onward_front xs₀ start n end some inside); rest = refl }
 
-  pub repeat_more : (xs : List A) (to : ℕ) (z : A) → Repeating xs₀ start n end xs to → to < end
-      → Repeating xs₀ start n end (set xs to (get_or xs (to - (n - start)) z)) (to + 1)
-  repeat_more xs to z w h =
+  pub repeat_more : (xs : List A) (to : ℕ) (y z : A) → Repeating xs₀ start n end xs to → to < end → y ≡ get_or xs (to - (n - start)) z
+      → Repeating xs₀ start n end (set xs to y) (to + 1)
+  repeat_more xs to y z w h e =
       let Z = onward start n end xs₀ in
       let k = to - (n - start) in
-      let x : get_or xs k z ≡ get_or Z to z =
-      sym (get_or-take to xs k z (omega arith))
+      let x : y ≡ get_or Z to z =
+      e
+      ∙ sym (get_or-take to xs k z (omega arith))
       ∙ ap (λ (ys : List A). get_or ys k z) w.front
       ∙ get_or-take to Z k z (omega arith)
       ∙ sym (onward_period xs₀ start n end some inside to z w.low h) in
       record {
         low = omega arith;
         high = omega arith;
-        long = length-set xs to (get_or xs k z) ∙ w.long;
+        long = length-set xs to y ∙ w.long;
         front =
-            ap (λ (j : ℕ). take j (set xs to (get_or xs k z))) (add-one to)
-            ∙ take-suc-set xs to (get_or xs k z) (omega (arith, w.long))
-            ∙ ap₂ (λ (ys : List A) (y : A). ys ++ (y ∷ [])) w.front x
+            ap (λ (j : ℕ). take j (set xs to y)) (add-one to)
+            ∙ take-suc-set xs to y (omega (arith, w.long))
+            ∙ ap₂ (λ (ys : List A) (u : A). ys ++ (u ∷ [])) w.front x
             ∙ sym (take-suc Z to z (omega (arith, onward_length xs₀ start n end some inside)))
             ∙ ap (λ (j : ℕ). take j Z) (sym (add-one to));
         rest =
-            drop-set-lt (to + 1) xs to (get_or xs k z) (omega arith)
+            drop-set-lt (to + 1) xs to y (omega arith)
             ∙ sym (drop-drop 1 to xs)
             ∙ ap (drop 1) w.rest
             ∙ drop-drop 1 to xs₀;

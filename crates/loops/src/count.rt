@@ -4,36 +4,22 @@ ghost use Rattle.std.specs.Prelude.{◌≡◌, ◌≤◌};
 ghost use Rattle.environment.specs.Ranges.{digit_run};
 ghost use Rattle.loops.specs.Loops.{cut_of, last_count, times_of};
 
-use number::digits::Int;
+use text::parsed::Parsed;
 
 // How many notes of a loop's m come in its last pass.
 pub fn last_count(start: usize, cut: usize, m: usize) -> usize
     ensures { (result ≡ last_count start (cut_of cut) m) × (result ≤ m) }
 {
-    if cut == 0 {
-        return m;
+    match cut.checked_sub(1) {
+        None => m,
+        Some(place) => place.saturating_sub(start).min(m),
     }
-    let place = cut - 1;
-    if place <= start {
-        return 0;
-    }
-    let before = place - start;
-    if before > m {
-        return m;
-    }
-    before
 }
 
 // A loop's count: 0 where there is none.
-pub fn times_of(times: Int) -> u64
+#[tactic(auto, unfolding(crate::specs::Loops::times_of, environment::specs::Ranges::digit_run))]
+pub fn times_of(times: Option<Parsed<u64>>) -> u64
     ensures { result ≡ times_of (digit_run times) }
 {
-    match times {
-        Int::Number(n, _) => {
-            return n;
-        }
-        Int::Absent => {
-            return 0;
-        }
-    }
+    times.map_or(0, |found| found.value)
 }

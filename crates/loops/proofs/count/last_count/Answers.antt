@@ -1,16 +1,10 @@
--- `loops::count::last_count` meets its contract, one law for each exit. Assumes nothing.
-use borrow.Author.Rules.{rules}
-use Rattle.loops.proofs.KeptCounts.{last_all, last_none, last_over, last_before}
+-- `loops::count::last_count` meets its contract: a loop without a cut plays all, another the notes before it. Assumes nothing.
+use Rattle.std.proofs.Common.{arith}
+use Rattle.loops.proofs.KeptCounts.{last_all, last_before}
 use Rattle.loops.proofs.count.last_count.Goals as goal
 
-pub returns-then-cut-eq0 : goal.returns-then-cut-eq0
-returns-then-cut-eq0 c = last_all _ _ _ c.if-cut-eq0.true
+pub returns-in-None : goal.returns-in-None
+returns-in-None c = last_all _ _ _ (omega (arith, c.in-None.ensures))
 
-pub returns-then-place-start : goal.returns-then-place-start
-returns-then-place-start c = last_none _ _ _ c.if-cut-eq0.false c.if-place-start.true
-
-pub returns-then-before-m : goal.returns-then-before-m
-returns-then-before-m c = last_over _ _ _ c.if-cut-eq0.false c.if-before-m.true
-
-pub returns : goal.returns
-returns c = last_before _ _ _ c.if-cut-eq0.false c.if-before-m.false
+pub returns-in-Some : goal.returns-in-Some
+returns-in-Some c = last_before _ _ _ _ (omega (arith, c.in-Some.ensures)) (omega (arith, c.in-Some.ensures))
