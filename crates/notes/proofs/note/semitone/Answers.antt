@@ -1,7 +1,6 @@
 -- `semitone` is the definition, with what its callees promise. Assumes nothing.
 use mathlib.Core.Path.{sym, ap, ap₂, ◌∙◌}
 use Prim.Native.Nat.{ℕ, ◌+◌, ◌*◌}
-use borrow.Author.Rules.{rules}
 use Rattle.keys.specs.Keys.{moved_by}
 use Rattle.notes.specs.Notes.{semitone_of}
 use Rattle.notes.proofs.Letters.{within_low, within_high}
@@ -14,5 +13,5 @@ pub returns : goal.returns
 unfolding semitone_of
 returns c =
     c.moved_by.ensures
-    ∙ ap₂ moved_by c.accidental-a.ensures (ap (λ (k : ℕ). 12 * c.args.env.octave + k) c.offset.ensures.0)
+    ∙ ap₂ moved_by c.accidental.ensures (ap (λ (k : ℕ). 12 * c.args.env.octave + k) c.offset.ensures.0)
     ∙ sym (within_low _ _ _ c.if-env-gt-MAX_OCTAVE.false)
