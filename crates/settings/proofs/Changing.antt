@@ -1,10 +1,15 @@
 -- Laws of commands: an answer that is known is what the definition reads, and a command leaves an octave that is in range in range. Assumes nothing.
-use mathlib.Core.Path.{◌≡◌, refl, sym, ap, ◌∙◌}
+use mathlib.Core.Path.{◌≡◌, refl, sym}
 use mathlib.Core.Bool.{Bool, true, false, ◌||◌}
 use mathlib.Core.Option.{Option, none, some}
 use Prim.Native.Nat.{ℕ, ◌≤◌}
 use native.Mathlib.Omega.{arith}
 use lib.Dec.{leb}
+use Rattle.std.specs.Prelude.{Option as Answer, Some, None, Ok, Err}
+use Rattle.text.specs.declared.parsed.Parsed.{Parsed}
+use Rattle.sheet.specs.declared.refusal.Refusal.{Refusal}
+use Rattle.sheet.specs.declared.refusal.Refusal.TheVariants.{NoAccidental}
+use Rattle.sheet.specs.Numbers.{outcome_on}
 use lib.Ieee.{Float, lt}
 use borrow.Author.Tests.{leb-true}
 use Rattle.ieee.specs.Constants.{plus_zero, one}
@@ -12,52 +17,31 @@ use Rattle.sheet.proofs.Basics.{both}
 use Rattle.sheet.proofs.Outcomes.{then_going, then_refused}
 use Rattle.sheet.specs.Refusals.{Outcome, going, ◌>>=◌, ◌>>◌, refuse◌on◌unless◌, refuse◌on◌if◌, refuse◌on◌without◌}
 use Rattle.environment.specs.declared.environment.Environment.{Environment}
-use Rattle.settings.specs.declared.command.Changed.TheVariants.{To, Refused}
 use Rattle.keys.specs.declared.key.Key.{Key}
-use Rattle.keys.specs.declared.key.KeyAt.{KeyAt}
-use Rattle.keys.specs.declared.key.KeyAt.TheVariants.{Found, Absent}
-use Rattle.environment.specs.declared.range.RangedValue.{RangedValue}
-use Rattle.environment.specs.declared.range.RangedValue.TheVariants as RangedValue
-use Rattle.environment.specs.declared.range.RangedAmplitude.{RangedAmplitude}
-use Rattle.environment.specs.declared.range.RangedAmplitude.TheVariants as RangedAmplitude
 use Rattle.environment.specs.Bounds.{Bounds, octaves, values, tempos, within}
 use Rattle.settings.specs.Changes.{Low, change_outcome, octave_read, value_read, tempo_read, amplitude_read, key_read}
 use Rattle.environment.specs.Environment.{with_amplitude, with_key}
 use Rattle.keys.specs.Keys.{key_found}
-use Rattle.environment.specs.Ranges.{Amount, amount, unreadable, too_long, readable, ranged, loudness, value_outcome, amplitude_outcome, key_outcome}
+use Rattle.environment.specs.Ranges.{Amount, amount, unreadable, too_long, readable, ranged, loudness, key_outcome}
 use Rattle.environment.proofs.Limits.{key_found_law, key_absent}
 
 -- ---- answers
 
-module _ (b : Bounds) (f : ℕ → Environment → Environment) (e : Environment) (n : Option ℕ) (v : ℕ) (r : RangedValue) where
-  pub number_to : r ≡ RangedValue.Value v → ((line : ℕ) → value_outcome line r ≡ ranged line b n) → (line : ℕ)
-      → change_outcome line (To (f v e)) ≡ (ranged line b n >>= (λ w. going (f w e)))
-  unfolding change_outcome value_outcome ◌>>=◌
-  number_to g h line = ap (λ (o : Outcome ℕ). o >>= (λ w. going (f w e))) (ap (value_outcome line) (sym g) ∙ h line)
+-- what is put into the environment, or why nothing is
+module _ {A : Type 0} (m : Outcome A) (f : A → Outcome Environment) (line : ℕ) where
+  pub put : (x : A) → outcome_on line (Ok x) ≡ m → f x ≡ (m >>= f)
+  put x e = sym (then_going x m f (sym e))
 
-  pub number_refused : r ≡ RangedValue.Refused v → ((line : ℕ) → value_outcome line r ≡ ranged line b n) → (line : ℕ)
-      → change_outcome line (Refused v) ≡ (ranged line b n >>= (λ w. going (f w e)))
-  unfolding change_outcome value_outcome ◌>>=◌
-  number_refused g h line = ap (λ (o : Outcome ℕ). o >>= (λ w. going (f w e))) (ap (value_outcome line) (sym g) ∙ h line)
+  pub refused_as : (why : Refusal) → outcome_on line (Err why) ≡ m → change_outcome line (Err why) ≡ (m >>= f)
+  refused_as why e = sym (then_refused _ line m f (sym e))
 
-module _ (e : Environment) (a : Amount) where
-  pub amplitude_to : (x : Float) (r : RangedAmplitude) → r ≡ RangedAmplitude.Amplitude x → ((line : ℕ) → amplitude_outcome line r ≡ loudness line a) → (line : ℕ)
-      → change_outcome line (To (with_amplitude x e)) ≡ amplitude_read line a e
-  unfolding change_outcome amplitude_outcome amplitude_read ◌>>=◌
-  amplitude_to x r g h line = ap (λ (o : Outcome Float). o >>= (λ y. going (with_amplitude y e))) (ap (amplitude_outcome line) (sym g) ∙ h line)
+module _ (e : Environment) (r : Answer (Parsed Key)) where
+  pub key_to : (found : Parsed Key) → r ≡ Some found → (line : ℕ) → change_outcome line (Ok (with_key found.value e)) ≡ key_read line (key_found r) e
+  unfolding key_read key_outcome
+  key_to found g line = sym (then_going found.value _ _ (key_found_law line r found g))
 
-  pub amplitude_refused : (n : ℕ) (r : RangedAmplitude) → r ≡ RangedAmplitude.Refused n → ((line : ℕ) → amplitude_outcome line r ≡ loudness line a) → (line : ℕ)
-      → change_outcome line (Refused n) ≡ amplitude_read line a e
-  unfolding change_outcome amplitude_outcome amplitude_read ◌>>=◌
-  amplitude_refused n r g h line = ap (λ (o : Outcome Float). o >>= (λ y. going (with_amplitude y e))) (ap (amplitude_outcome line) (sym g) ∙ h line)
-
-module _ (e : Environment) (r : KeyAt) where
-  pub key_to : (k : Key) (next : ℕ) → r ≡ Found k next → (line : ℕ) → change_outcome line (To (with_key k e)) ≡ key_read line (key_found r) e
-  unfolding change_outcome key_read key_outcome
-  key_to k next g line = sym (then_going k _ _ (key_found_law line r k next g))
-
-  pub key_refused : r ≡ Absent → (line : ℕ) → change_outcome line (Refused 9) ≡ key_read line (key_found r) e
-  unfolding change_outcome key_read key_outcome
+  pub key_refused : r ≡ None → (line : ℕ) → change_outcome line (Err NoAccidental) ≡ key_read line (key_found r) e
+  unfolding key_read key_outcome
   key_refused g line = sym (then_refused _ line _ _ (key_absent line r g))
 
 -- ---- octaves in range, and refusals whose number is not 0

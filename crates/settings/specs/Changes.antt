@@ -1,11 +1,11 @@
 -- What a command comes to: the environment that it makes of another, with its refusals in order: "`o`, `l`, `t`: 7, 8."; "Decimal command: 7, 19, 8."; "key
 -- without accidental" is 9. Assumes nothing.
 use Rattle.std.proofs.Math.Option.{Option}
-use Rattle.std.specs.Prelude.{ℕ, ◌≤◌, ◌<◌}
+use Rattle.std.specs.Prelude.{ℕ, ◌≤◌, ◌<◌, Result}
 use Rattle.sheet.specs.Refusals.{Outcome, going, refused, ◌>>=◌}
+use Rattle.sheet.specs.declared.refusal.Refusal.{Refusal}
+use Rattle.sheet.specs.Numbers.{outcome_on}
 use Rattle.environment.specs.declared.environment.Environment.{Environment}
-use Rattle.settings.specs.declared.command.Changed.{Changed}
-use Rattle.settings.specs.declared.command.Changed.TheVariants.{To, Refused}
 use Rattle.keys.specs.declared.key.Key.{Key}
 use Rattle.environment.specs.Bounds.{octaves, values, tempos}
 use Rattle.environment.specs.Environment.{with_octave, with_value, with_tempo, with_amplitude, with_key}
@@ -42,11 +42,10 @@ module _ (line : ℕ) where
     x ← key_taken line k
     going (with_key x e)
 
--- ---- answers: what each case stands for, on a line
+-- ---- answers: what each stands for, on a line
 
-unfoldable pub change_outcome : ℕ → Changed → Outcome Environment
-change_outcome line (To e) = going e
-change_outcome line (Refused n) = refused n line
+abbrev pub change_outcome : ℕ → Result Environment Refusal → Outcome Environment
+change_outcome line r = outcome_on line r
 
 -- a command leaves an octave that is in range, or is refused with a number that is not 0
 unfoldable pub Low : Outcome Environment → Type 0

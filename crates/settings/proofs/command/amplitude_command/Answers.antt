@@ -1,10 +1,15 @@
 -- `amplitude_command` is what `ranged_amplitude` answers, put into the environment. Assumes nothing.
-use borrow.Author.Rules.{rules}
-use Rattle.settings.proofs.Changing.{amplitude_to, amplitude_refused}
+use Rattle.std.proofs.lemmas.Result.{err_from_is_err_and}
+use Rattle.settings.specs.Changes.{amplitude_read}
+use Rattle.settings.proofs.Changing.{put, refused_as}
 use Rattle.settings.proofs.command.amplitude_command.Goals as goal
 
-pub returns-in-Amplitude : goal.returns-in-Amplitude
-returns-in-Amplitude c = amplitude_to _ _ _ _ c.in-Amplitude.is c.ranged_amplitude-found.ensures
+pub returns-in_err-amplitude : goal.returns-in_err-amplitude
+unfolding amplitude_read
+returns-in_err-amplitude c = λ line.
+    let p = err_from_is_err_and c.from_residual.result c.from_residual.ensures.1 in
+    rw (p.1, p.2) (refused_as _ _ line _ (c.in_err-amplitude.ensures line))
 
-pub returns-in-Refused : goal.returns-in-Refused
-returns-in-Refused c = amplitude_refused _ _ _ _ c.in-Refused.is c.ranged_amplitude-found.ensures
+pub returns : goal.returns
+unfolding amplitude_read
+returns c = λ line. put _ _ line _ (c.in_ok-amplitude.ensures line)

@@ -1,15 +1,15 @@
 -- `tempo_command` is what `ranged_value` answers, put into the environment. Assumes nothing.
-use borrow.Author.Rules.{rules}
-use Rattle.environment.specs.Bounds.{tempos}
+use Rattle.std.proofs.lemmas.Result.{err_from_is_err_and}
 use Rattle.settings.specs.Changes.{tempo_read}
-use Rattle.environment.specs.Environment.{with_tempo}
-use Rattle.settings.proofs.Changing.{number_to, number_refused}
+use Rattle.settings.proofs.Changing.{put, refused_as}
 use Rattle.settings.proofs.command.tempo_command.Goals as goal
 
-pub returns-in-Value : goal.returns-in-Value
+pub returns-in_err-tempo : goal.returns-in_err-tempo
 unfolding tempo_read
-returns-in-Value c = number_to tempos with_tempo c.args.env _ _ _ c.in-Value.is c.ranged_value-found.ensures
+returns-in_err-tempo c = λ line.
+    let p = err_from_is_err_and c.from_residual.result c.from_residual.ensures.1 in
+    rw (p.1, p.2) (refused_as _ _ line _ (c.in_err-tempo.ensures line))
 
-pub returns-in-Refused : goal.returns-in-Refused
+pub returns : goal.returns
 unfolding tempo_read
-returns-in-Refused c = number_refused tempos with_tempo c.args.env _ _ _ c.in-Refused.is c.ranged_value-found.ensures
+returns c = λ line. put _ _ line _ (c.in_ok-tempo.ensures line)
