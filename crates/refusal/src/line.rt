@@ -3,6 +3,9 @@
 ghost use Rattle.std.specs.Prelude.{◌≡◌, ◌+◌, ◌≤◌, length};
 ghost use Rattle.refusal.specs.Line.{last_digit, numeral, Adds, line_count, line_in};
 
+// The most bytes that a line has: two numbers of 64 bits have 20 digits each.
+const ROOM: usize = 50;
+
 // The last digit of a number.
 fn digit(n: u64) -> u8
     ensures { result ≡ last_digit n }
@@ -16,12 +19,9 @@ fn add_word(text: &mut [u8], at: usize, word: &[u8]) -> usize
     ensures end { result ≡ at + length word.now }
     ensures bytes { Adds text.old at word.now text.new }
 {
-    let mut i = 0;
-    while i < word.len() {
-        text[at + i] = word[i];
-        i += 1;
-    }
-    at + i
+    let end = at + word.len();
+    text[at..end].copy_from_slice(word);
+    end
 }
 
 // The same with a number's digits: below ten it is one digit, else those of its tenth part stand before the last.
@@ -44,7 +44,7 @@ pub fn refused_line(number: u32, line: usize, text: &mut [u8]) -> usize
     ensures count { result ≡ line_count number line (length text.old) }
     ensures bytes { text.new ≡ line_in number line text.old }
 {
-    if text.len() < 50 {
+    if text.len() < ROOM {
         return 0;
     }
     let a = add_word(text, 0, b"refused ");
