@@ -86,7 +86,6 @@ module _ (counts : List ℕ) (fs : List Float) (is : List ℕ) (most : ℕ) wher
   -- n notes are laid, and those from the note i of the part k on are left
   pub record Laying (k i n : ℕ) (notes : List Note) : Type 0 where
     pub room : n ≤ 2048
-    pub short : i ≤ 2048
     within : i ≤ length (notes_at counts fs is k)
     lies : notes ≡ padded 2048 silence (take n all)
     left : drop n all ≡ drop i (notes_from counts fs is k (most - k))
@@ -97,7 +96,7 @@ module _ (counts : List ℕ) (fs : List Float) (is : List ℕ) (most : ℕ) wher
 
   pub laying_start : (notes : List Note) → notes ≡ padded 2048 silence [] → Laying 0 0 0 notes
   laying_start notes e =
-      record { room = omega arith; short = omega arith; within = omega arith; lies = e; left = ap (notes_from counts fs is 0) (let z : most ≡ most - 0 = omega arith in z) }
+      record { room = omega arith; within = omega arith; lies = e; left = ap (notes_from counts fs is 0) (let z : most ≡ most - 0 = omega arith in z) }
 
   module _ (k i n : ℕ) (notes : List Note) (g : Laying k i n notes) where
     pub laying_part : (many : ℕ) → k < most → many ≡ min (get_or counts k 0) (min 2048 (length is - 2048 * k)) → many ≤ i → Laying (k + 1) 0 n notes
@@ -105,7 +104,6 @@ module _ (counts : List ℕ) (fs : List Float) (is : List ℕ) (most : ℕ) wher
         let end : length (notes_at counts fs is k) ≡ i = omega (arith, notes_many counts fs is k, m, l, g.within) in
         record {
           room = g.room;
-          short = omega arith;
           within = omega arith;
           lies = g.lies;
           left = g.left ∙ ap (drop i) (from_part_law k h) ∙ drop_at (notes_at counts fs is k) (notes_from counts fs is (k + 1) (most - (k + 1))) i end;
@@ -128,7 +126,6 @@ module _ (counts : List ℕ) (fs : List Float) (is : List ℕ) (most : ℕ) wher
         ∙ sym (same_next all more n i g.left) in
         record {
           room = omega (arith, r);
-          short = omega (arith, m, l);
           within = omega (arith, inside);
           lies = filled_next 2048 silence silence all notes n x (omega (arith, inside, long, there)) r next g.lies;
           left = sym (drop-drop 1 n all) ∙ ap (drop 1) g.left ∙ drop-drop 1 i more;
@@ -145,11 +142,3 @@ module _ (counts : List ℕ) (fs : List Float) (is : List ℕ) (most : ℕ) wher
         let none : drop n all ≡ [] = g.left ∙ ap (λ (j : ℕ). drop i (notes_from counts fs is k j)) z ∙ drop-nil i in
         let few : length all - n ≡ 0 = sym (length-drop n all) ∙ ap length none in
         g.lies ∙ ap (padded 2048 silence) (take_all n all (omega (arith, few)) ∙ sym (take_all 2048 all (omega (arith, few, g.room))))
-
--- ---- turns: 2,048 notes and the end of a part are fewer than 2,049
-
-pub turns_note : (most k i : ℕ) → k < most → i < 2048 → (most - k) * 2049 - (i + 1) < (most - k) * 2049 - i
-turns_note most k i h l = omega arith
-
-pub turns_part : (most k i : ℕ) → k < most → i ≤ 2048 → (most - (k + 1)) * 2049 - 0 < (most - k) * 2049 - i
-turns_part most k i h l = omega arith

@@ -3,3 +3,4 @@
 #![tactic(auto)]
 
 pub mod parts;
+pub mod region;
