@@ -2,6 +2,7 @@
 use mathlib.Core.Path.{◌≡◌, refl}
 use mathlib.Core.List.{List, [], ◌∷◌, map}
 use Prim.Native.Nat.{ℕ}
+use Rattle.std.specs.Prelude.{Some, None}
 use Prim.Native.String.{String}
 use lib.ListN.{length, take, drop}
 use lib.Ieee.{round, add, sub, mul, div, lt, of_bits, of_int}
@@ -10,7 +11,6 @@ use Rattle.sheet.specs.Refusals.{◌>>=◌, ◌>>◌, refuse◌on◌unless◌, r
 use Rattle.form.specs.declared.size.Size.{Size}
 use Rattle.form.specs.declared.size.Size.TheVariants.{Published, Old}
 use Rattle.strict.specs.declared.mode.Mode.TheVariants.{Plain, Strict}
-use Rattle.cue.specs.declared.words.Asked.TheVariants.{Read, Unknown}
 use Rattle.cue.specs.Answer.{answer_of}
 use Rattle.cue.specs.Words.{asked_by}
 
@@ -37,14 +37,14 @@ empty = (refl, refl, refl)
 
 -- the words that the program is started with, and what it is asked by them
 pub words :
-    (asked_by 1 [] [] ≡ Read Plain Published)
-    × (asked_by 2 (bytes "strict") [] ≡ Read Strict Published)
-    × (asked_by 2 (bytes "old-size") [] ≡ Read Plain Old)
-    × (asked_by 3 (bytes "strict") (bytes "old-size") ≡ Read Strict Old)
-    × (asked_by 3 (bytes "old-size") (bytes "strict") ≡ Read Strict Old)
-    × (asked_by 3 (bytes "strict") (bytes "strict") ≡ Unknown)
-    × (asked_by 3 (bytes "old-size") (bytes "old-size") ≡ Unknown)
-    × (asked_by 2 (bytes "old") [] ≡ Unknown)
-    × (asked_by 4 (bytes "strict") (bytes "old-size") ≡ Unknown)
+    (asked_by 1 [] [] ≡ Some (Plain, Published))
+    × (asked_by 2 (bytes "strict") [] ≡ Some (Strict, Published))
+    × (asked_by 2 (bytes "old-size") [] ≡ Some (Plain, Old))
+    × (asked_by 3 (bytes "strict") (bytes "old-size") ≡ Some (Strict, Old))
+    × (asked_by 3 (bytes "old-size") (bytes "strict") ≡ Some (Strict, Old))
+    × (asked_by 3 (bytes "strict") (bytes "strict") ≡ None)
+    × (asked_by 3 (bytes "old-size") (bytes "old-size") ≡ None)
+    × (asked_by 2 (bytes "old") [] ≡ None)
+    × (asked_by 4 (bytes "strict") (bytes "old-size") ≡ None)
 unfolding asked_by
 words = (refl, refl, refl, refl, refl, refl, refl, refl, refl)

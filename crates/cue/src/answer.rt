@@ -19,32 +19,16 @@ use strict::mode::Mode;
 use system::output::Streams;
 
 // One byte more than a source may have is enough to see that it has too many.
-const SOURCE: usize = 32769;
+pub const SOURCE: usize = 32769;
 
 // The longest line of a refusal.
 const LINE: usize = 50;
 
+// The samples of a second.
+const RATE: u32 = 44100;
+
 // A file is handed on in parts of so many bytes.
 const PART: usize = 65536;
-
-// Room for a source that is not too long, and for one byte more.
-pub fn source_buffer() -> [u8; SOURCE]
-    ensures { 32769 ≡ length result }
-{
-    [0; SOURCE]
-}
-
-fn line_buffer() -> [u8; LINE]
-    ensures { 50 ≡ length result }
-{
-    [0; LINE]
-}
-
-fn part_buffer() -> [u8; PART]
-    ensures { 65536 ≡ length result }
-{
-    [0; PART]
-}
 
 // Hands `refused N L` and a line feed on: the refusal's number, and its line.
 fn hand_line<W: Write, E: Write>(
@@ -61,7 +45,7 @@ fn hand_line<W: Write, E: Write>(
     requires answer { answer_of mode size source.now ≡ refused_line number line }
     ensures { Whole (answer_of mode size source.now) result }
 {
-    let mut text = line_buffer();
+    let mut text = [0; LINE];
     let n = refused_line(number, line, &mut text);
     out.hand(mode, size, source, to, &text[..n], reached)
 }
@@ -72,7 +56,7 @@ fn next(sheet: Sheet, buffer: &mut [u8], size: Size, at: usize) -> usize
     ensures count { result ≡ next_of 44100 sheet (length buffer.old) at }
     ensures bytes { buffer.new ≡ next_in size 44100 sheet buffer.old at }
 {
-    next_bytes(sheet, buffer, size, 44100, at)
+    next_bytes(sheet, buffer, size, RATE, at)
 }
 
 // Hands a sheet's file on, part by part, until all of it is handed on or nobody takes it any more.
@@ -89,7 +73,7 @@ fn hand_file<W: Write, E: Write>(
     requires answer { (answer_of mode size source.now ≡ file_of size 44100 sheet) × (is_sheet 44100 sheet ≡ true) }
     ensures { Whole (answer_of mode size source.now) result }
 {
-    let mut buffer = part_buffer();
+    let mut buffer = [0; PART];
     let mut later = out;
     while later.is_taking() {
         let n = next(sheet, &mut buffer, size, later.place());

@@ -20,24 +20,23 @@ impl Handing {
     pub fn start() -> Handing
         ensures { (result.out.at ≡ 0) × (result.out.taking ≡ true) }
     {
-        let out = Output::start();
-        Handing { out }
+        Handing {
+            out: Output::start(),
+        }
     }
 
     // How many bytes of the answer have been handed on.
     pub fn place(self) -> usize
         ensures { result ≡ self.out.at }
     {
-        let out = self.out;
-        out.place()
+        self.out.place()
     }
 
     // Whether all of them were taken.
     pub fn is_taking(self) -> bool
         ensures { result ≡ self.out.taking }
     {
-        let out = self.out;
-        out.is_taking()
+        self.out.is_taking()
     }
 
     // Hands the next piece of the answer on. A `Handing` can be copied; where one `reached` is lent to all, it holds
@@ -55,8 +54,7 @@ impl Handing {
         requires next { Next (answer_of mode size source.now) self.out.at part.now }
         ensures { Moved self (length part.now) result reached.new }
     {
-        let out = self.out;
-        let later = out.hand(to, part, reached);
+        let later = self.out.hand(to, part, reached);
         Handing { out: later }
     }
 }

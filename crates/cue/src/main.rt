@@ -9,13 +9,13 @@ mod answer;
 mod handing;
 mod words;
 
-use crate::answer::{answer, source_buffer};
+use crate::answer::{SOURCE, answer};
 use crate::handing::Handing;
-use crate::words::{Asked, USE, asked_by};
+use crate::words::{USE, asked_by};
 use form::size::Size;
 use std::io::{Read, Write};
 use strict::mode::Mode;
-use system::input::{Input, read_first};
+use system::input::read_first;
 use system::output::{Streams, tell};
 use system::words::{word, word_count};
 
@@ -28,13 +28,9 @@ fn respond<W: Write, E: Write>(mode: Mode, size: Size, source: &[u8], to: &mut S
 // Reads an input to its end, or to one byte more than a source may have, and hands the answer on. Where it cannot be
 // read to there, nothing is handed on: half a sheet is no sheet.
 fn run<R: Read, W: Write, E: Write>(mode: Mode, size: Size, input: &mut R, to: &mut Streams<W, E>) {
-    let mut bytes = source_buffer();
-    let read = read_first(input, &mut to.errors, &mut bytes);
-    match read {
-        Input::Read(n) => {
-            respond(mode, size, &bytes[..n], to);
-        }
-        Input::Failed => {}
+    let mut bytes = [0; SOURCE];
+    if let Some(n) = read_first(input, &mut to.errors, &mut bytes) {
+        respond(mode, size, &bytes[..n], to);
     }
 }
 
@@ -50,11 +46,7 @@ fn main(rt: HostRuntime) {
         errors: rt.stderr(),
     };
     match asked_by(word_count(&rt), &first[..m], &second[..n]) {
-        Asked::Read(mode, size) => {
-            run(mode, size, &mut rt.stdin(), &mut to);
-        }
-        Asked::Unknown => {
-            tell(&mut to.errors, &USE);
-        }
+        Some((mode, size)) => run(mode, size, &mut rt.stdin(), &mut to),
+        None => tell(&mut to.errors, &USE),
     }
 }

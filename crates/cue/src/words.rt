@@ -10,61 +10,47 @@ use text::characters::same_text;
 // How the program is used.
 pub const USE: [u8; 48] = *b"use: cue [strict] [old-size] < sheet > file.wav\n";
 
-// What the program is asked: to read in a mode and write the RIFF size of a name, or something that it does not understand.
-#[derive(Clone, Copy)]
-pub enum Asked {
-    Read(Mode, Size),
-    Unknown,
-}
-
-// What is asked by one word.
-fn asked_by_one(word: &[u8]) -> Asked
+// What is asked by one word: a mode to read in, and the name of the RIFF size to write, or nothing that the program
+// understands.
+#[tactic(auto, unfolding(crate::specs::Words::asked_by_one, text::specs::Quoted::bytes))]
+fn asked_by_one(word: &[u8]) -> Option<(Mode, Size)>
     ensures { result ≡ asked_by_one word.now }
 {
     if same_text(word, b"strict") {
-        return Asked::Read(Mode::Strict, Size::Published);
+        return Some((Mode::Strict, Size::Published));
     }
     if same_text(word, b"old-size") {
-        return Asked::Read(Mode::Plain, Size::Old);
+        return Some((Mode::Plain, Size::Old));
     }
-    Asked::Unknown
+    None
 }
 
 // Whether the two words are both that there are, in this order.
+#[tactic(auto, unfolding(crate::specs::Words::are_both, text::specs::Quoted::bytes))]
 fn are_both(first: &[u8], second: &[u8]) -> bool
     ensures { result ≡ are_both first.now second.now }
 {
-    if !same_text(first, b"strict") {
-        return false;
-    }
-    same_text(second, b"old-size")
+    same_text(first, b"strict") && same_text(second, b"old-size")
 }
 
 // What is asked by two words.
-fn asked_by_two(first: &[u8], second: &[u8]) -> Asked
+#[tactic(auto, unfolding(crate::specs::Words::asked_by_two))]
+fn asked_by_two(first: &[u8], second: &[u8]) -> Option<(Mode, Size)>
     ensures { result ≡ asked_by_two first.now second.now }
 {
-    if are_both(first, second) {
-        return Asked::Read(Mode::Strict, Size::Old);
-    }
-    if are_both(second, first) {
-        return Asked::Read(Mode::Strict, Size::Old);
-    }
-    Asked::Unknown
+    let both = are_both(first, second) || are_both(second, first);
+    both.then_some((Mode::Strict, Size::Old))
 }
 
 // What is asked by so many words, the program's own name among them, of which these stand behind the name; a word that there is not counts for nothing.
-pub fn asked_by(count: usize, first: &[u8], second: &[u8]) -> Asked
+#[tactic(auto, unfolding(crate::specs::Words::asked_by))]
+pub fn asked_by(count: usize, first: &[u8], second: &[u8]) -> Option<(Mode, Size)>
     ensures { result ≡ asked_by count first.now second.now }
 {
-    if count <= 1 {
-        return Asked::Read(Mode::Plain, Size::Published);
+    match count {
+        0..=1 => Some((Mode::Plain, Size::Published)),
+        2 => asked_by_one(first),
+        3 => asked_by_two(first, second),
+        _ => None,
     }
-    if count == 2 {
-        return asked_by_one(first);
-    }
-    if count == 3 {
-        return asked_by_two(first, second);
-    }
-    Asked::Unknown
 }

@@ -10,13 +10,6 @@ use crate::output::fail;
 use std::io;
 use std::io::{Error, ErrorKind, Read, Write};
 
-// What stands at a buffer's start: so many bytes that were read, or nothing that means anything, as reading failed.
-#[derive(Clone, Copy)]
-pub enum Input {
-    Read(usize),
-    Failed,
-}
-
 // How often an interrupted call is tried again: every function has to end, and nobody interrupts so often.
 pub(crate) const TRIES: u32 = 4294967295;
 
@@ -53,8 +46,13 @@ fn read_some<R: Read>(input: &mut R, bytes: &mut [u8]) -> io::Result<usize>
     Err(tired())
 }
 
-// Reads an input until the buffer is full or the input ends. Where reading fails, one line to standard error says why.
-pub fn read_first<R: Read, E: Write>(input: &mut R, errors: &mut E, bytes: &mut [u8]) -> Input
+// Reads an input until the buffer is full or the input ends, and says how many bytes were read. Where reading fails, one
+// line to standard error says why, and nothing in the buffer means anything.
+pub fn read_first<R: Read, E: Write>(
+    input: &mut R,
+    errors: &mut E,
+    bytes: &mut [u8],
+) -> Option<usize>
     ensures count { Within result bytes.new }
     ensures bytes { ReadsFirst (R.remaining input.old) result bytes.new }
     ensures quiet { KeepsUnlessFailed result (E.contents errors.old) (E.contents errors.new) }
@@ -62,17 +60,13 @@ pub fn read_first<R: Read, E: Write>(input: &mut R, errors: &mut E, bytes: &mut 
     let mut done = 0;
     while done < bytes.len() {
         match read_some(input, &mut bytes[done..]) {
-            Ok(n) => {
-                if n == 0 {
-                    return Input::Read(done);
-                }
-                done += n;
-            }
+            Ok(0) => return Some(done),
+            Ok(n) => done += n,
             Err(why) => {
                 fail(errors, b"standard input", why);
-                return Input::Failed;
+                return None;
             }
         }
     }
-    Input::Read(done)
+    Some(done)
 }

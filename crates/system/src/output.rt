@@ -13,9 +13,6 @@ use std::fmt::InlineText;
 use std::io;
 use std::io::{Error, ErrorKind, Write};
 
-// The largest place.
-const LARGEST: usize = 18446744073709551615;
-
 #[derive(Clone, Copy)]
 pub struct Output {
     // How many bytes of the answer have been handed on.
@@ -112,14 +109,13 @@ impl Output {
         if *reached != at {
             return stopped;
         }
-        if part.len() > LARGEST - at {
+        let Some(next) = at.checked_add(part.len()) else {
             return stopped;
-        }
+        };
         if let Err(why) = write_part(&mut to.output, part) {
             fail(&mut to.errors, b"standard output", why);
             return stopped;
         }
-        let next = at + part.len();
         *reached = next;
         Output {
             at: next,

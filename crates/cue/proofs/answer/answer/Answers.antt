@@ -1,6 +1,5 @@
 -- `answer` hands on what the reading asks for. Assumes nothing.
 use Rattle.cue.proofs.Readings.{read_passes, answer_line, answer_file}
-use borrow.Author.Rules.{rules}
 use Rattle.cue.proofs.answer.answer.Goals as goal
 
 pub hand_line-requires : goal.hand_line-requires

@@ -1,8 +1,8 @@
 -- `hand_file` hands the file on piece by piece, until all of it is handed on. Assumes nothing.
-use mathlib.Core.Path.{◌≡◌, sym, ap, subst, ◌∙◌}
+use mathlib.Core.Path.{◌≡◌, refl, sym, ap, subst, ◌∙◌}
 use mathlib.Core.Bool.{true}
 use mathlib.Core.List.{List}
-use Prim.Native.Nat.{ℕ, ◌+◌, ◌-◌}
+use Prim.Native.Nat.{ℕ, ◌+◌}
 use native.Mathlib.Omega.{arith}
 use lib.ListN.{length, take}
 use Rattle.form.specs.declared.size.Size.{Size}
@@ -26,7 +26,7 @@ module _ (size : Size) (sheet : Sheet) (buffer : List ℕ) (at n : ℕ) (is : is
 
 pub loop-mode-init : goal.loop-mode-init
 loop-mode-init g c =
-    (sym c.part_buffer-buffer.ensures, (c.requires.fresh.0.last, subst (Begins (length (file_of c.args.size 44100 c.args.sheet))) (sym c.requires.fresh.1) (begins _)))
+    (refl, (c.requires.fresh.0.last, subst (Begins (length (file_of c.args.size 44100 c.args.sheet))) (sym c.requires.fresh.1) (begins _)))
 
 pub slice_bounds-next-end : goal.slice_bounds-next-end
 slice_bounds-next-end g c = sym c.loop-mode.invariant.0

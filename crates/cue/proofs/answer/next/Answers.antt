@@ -3,7 +3,6 @@ use mathlib.Core.Path.{sym, ap, subst, ◌∙◌}
 use Prim.Native.Nat.{ℕ, ◌≤◌}
 use lib.ListN.{length}
 use lib.Seq.{length-take-le}
-use borrow.Author.Rules.{rules}
 use Rattle.engine.specs.Stream.{next_of}
 use Rattle.engine.proofs.Counted.{next_room}
 use Rattle.engine.proofs.HandedOn.{next_length}

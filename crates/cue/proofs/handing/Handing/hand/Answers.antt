@@ -1,5 +1,4 @@
 -- `hand` hands the piece to the output, which comes further by its length or takes no more. Assumes nothing.
-use borrow.Author.Rules.{rules}
 use Rattle.cue.proofs.Pieces.{moved_on}
 use Rattle.cue.proofs.handing.Handing.hand.Goals as goal
 
