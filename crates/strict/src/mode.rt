@@ -12,25 +12,21 @@ pub enum Mode {
 }
 
 // The mode that a number stands for: 0 is plain, and every other number is strict.
+#[tactic(auto, unfolding(crate::specs::Strict::mode_numbered))]
 pub fn mode_of(number: u32) -> Mode
     ensures { result ≡ mode_numbered number }
 {
     if number == 0 {
-        return Mode::Plain;
+        Mode::Plain
+    } else {
+        Mode::Strict
     }
-    Mode::Strict
 }
 
 // Whether a token has a tail that the mode refuses: its reader stopped at one place, and the token ends at another.
+#[tactic(auto, unfolding(crate::specs::Strict::tailed))]
 pub fn has_tail(mode: Mode, stop: usize, end: usize) -> bool
     ensures { result ≡ tailed mode stop end }
 {
-    match mode {
-        Mode::Plain => {
-            return false;
-        }
-        Mode::Strict => {
-            return stop < end;
-        }
-    }
+    matches!(mode, Mode::Strict) && stop < end
 }
