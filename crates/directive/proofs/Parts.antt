@@ -1,14 +1,16 @@
 -- A directive carried out on one environment after the other: the first ones are changed, the rest are not yet. Assumes nothing.
 use mathlib.Core.Path.{◌≡◌, refl, sym, ap, ◌∙◌}
-use mathlib.Core.List.{List, [], ◌∷◌, map, ◌++◌}
-use Prim.Native.Nat.{ℕ, zero, suc, ◌+◌, ◌≤◌, ◌<◌, min}
+use mathlib.Core.List.{List, [], ◌∷◌, ◌++◌}
+use Prim.Native.Nat.{ℕ, zero, suc, ◌+◌, ◌<◌, min}
 use native.Mathlib.Omega.{arith}
 use lib.ListN.{length, take, drop, get_or, set}
+use Rattle.std.specs.Prelude.{Result}
+use Rattle.sheet.specs.declared.refusal.Refusal.{Refusal}
 use Rattle.environment.specs.declared.environment.Environment.{Environment}
 use Rattle.directive.specs.declared.directive.Directive.{Directive}
 use Rattle.directive.specs.Directives.{applied, applied_to}
 
-module _ (d : Directive) where
+module _ (d : Result Directive Refusal) where
   pub none_applied : (es : List Environment) → es ≡ applied_to d 0 es
   unfolding applied_to
   none_applied es = refl
@@ -48,6 +50,13 @@ module _ (d : Directive) where
       ∙ ap (λ (a : List Environment). applied d e ∷ a) (applied_more i es x (omega (arith, h)))
       ∙ sym (step (i + 1) e es)
       ∙ ap (λ (n : ℕ). applied_to d n (e ∷ es)) (let z : suc (i + 1) ≡ suc i + 1 = omega arith in z)
+
+  -- all of a front, and the rest as it was
+  pub applied_front : (m : ℕ) (es : List Environment) → applied_to d (length (take m es)) (take m es) ++ drop m es ≡ applied_to d m es
+  unfolding applied_to
+  applied_front zero es = refl
+  applied_front (suc m) [] = refl
+  applied_front (suc m) (e ∷ es) = ap (λ (a : List Environment). applied d e ∷ a) (applied_front m es)
 
   -- there are no more than all
   pub applied_most : (n : ℕ) (es : List Environment) → applied_to d (min n (length es)) es ≡ applied_to d n es

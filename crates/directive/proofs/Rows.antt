@@ -5,6 +5,11 @@ use mathlib.Core.List.{List}
 use mathlib.Core.Option.{none, some}
 use Prim.Native.Nat.{ℕ, ◌+◌, ◌-◌, ◌≤◌}
 use native.Mathlib.Omega.{arith}
+use Rattle.std.specs.Prelude.{Option as Answer, Some, None, Ok, Err}
+use Rattle.text.specs.declared.parsed.Parsed.{Parsed}
+use Rattle.sheet.specs.declared.refusal.Refusal.{Refusal}
+use Rattle.sheet.specs.declared.refusal.Refusal.TheVariants.{UnknownDirective, NoNumber, NoAccidental, Tail}
+use Rattle.sheet.specs.Numbers.{outcome_on}
 use lib.ListN.{length, take, drop, length-drop}
 use Rattle.lines.specs.declared.names.NameAt.{NameAt}
 use Rattle.text.specs.Blanks.{is_blank, is_ink}
@@ -15,7 +20,6 @@ use Rattle.text.specs.Quoted.{bytes}
 use Rattle.lines.specs.Tokens.{first_token, named_of, name_at, named_by}
 use Rattle.text.proofs.Fronts.{after_is, take_front, front_within}
 use Rattle.lines.proofs.Named.{named_is, name_within}
-use Rattle.number.specs.declared.digits.Int.{Int}
 use Rattle.number.specs.Digits.{value_most, int_at, int_width}
 use Rattle.sheet.specs.Refusals.{Outcome, going, refused, ◌>>=◌, ◌>>◌, refuse◌on◌without◌}
 use Rattle.sheet.proofs.Outcomes.{then_going, then_refused}
@@ -24,92 +28,95 @@ use Rattle.strict.specs.Strict.{tailed, read_to_its_end}
 use Rattle.strict.proofs.Tails.{read_through, read_tail}
 use Rattle.environment.specs.declared.environment.Environment.{Environment}
 use Rattle.keys.specs.declared.key.Key.{Key}
-use Rattle.keys.specs.declared.key.KeyAt.TheVariants.{Found, Absent}
-use Rattle.environment.specs.declared.range.RangedValue.{RangedValue}
-use Rattle.environment.specs.declared.range.RangedValue.TheVariants as RangedValue
 use Rattle.environment.specs.Bounds.{Bounds, tempos, denominators}
-use Rattle.environment.specs.Environment.{with_key}
+use Rattle.environment.specs.Environment.{with_tempo, with_denominator, with_key}
 use Rattle.keys.specs.Keys.{key_at, key_width}
-use Rattle.environment.specs.Ranges.{digit_run, ranged, value_outcome}
+use Rattle.environment.specs.Ranges.{digit_run, ranged}
 use Rattle.environment.proofs.Limits.{key_found_law, key_absent}
-use Rattle.directive.specs.declared.directive.Directive.TheVariants.{Tempo, Denominator, OfKey, Refused}
-use Rattle.directive.specs.Directives.{directives, change_of, directive_of, directive_outcome}
+use Rattle.directive.specs.declared.directive.Directive.TheVariants.{Tempo, Denominator, OfKey}
+use Rattle.directive.specs.Directives.{directives, number_read, change_of, directive_of, directive_outcome}
+
+-- ---- a number that is read to its end
+
+module _ (mode : Mode) (text : List ℕ) (b : Bounds) (n : Answer (Parsed ℕ)) (g : n ≡ int_at value_most text 0) (line : ℕ) where
+  pub number_refused : (why : Refusal) → outcome_on line (Err why) ≡ ranged line b (digit_run n) → outcome_on line (Err why) ≡ number_read mode line b text
+  unfolding number_read
+  number_refused why h = sym (then_refused _ line _ _ (sym (h ∙ ap (λ (x : Answer (Parsed ℕ)). ranged line b (digit_run x)) g)))
+
+  module _ (v stop : ℕ) (h : going v ≡ ranged line b (digit_run n)) (i : stop ≡ int_width n) where
+    number_law : number_read mode line b text ≡ (read_to_its_end mode line text stop >> going v)
+    unfolding number_read
+    number_law =
+        then_going v _ _ (sym (h ∙ ap (λ (x : Answer (Parsed ℕ)). ranged line b (digit_run x)) g))
+        ∙ ap (λ (k : ℕ). read_to_its_end mode line text k >> going v) (sym (i ∙ ap int_width g))
+
+    pub number_to : tailed mode stop (length text) ≡ false → going v ≡ number_read mode line b text
+    unfolding ◌>>◌
+    number_to t = sym (number_law ∙ rw (read_through mode line text stop t))
+
+    pub number_tailed : tailed mode stop (length text) ≡ true → refused 32 line ≡ number_read mode line b text
+    unfolding ◌>>◌
+    number_tailed t = sym (number_law ∙ rw (read_tail mode line text stop t))
 
 -- ---- what each row answers
 
-module _ (mode : Mode) (text : List ℕ) where
-  -- a number within bounds, put where it belongs once the token is read to its end
-  module _ (b : Bounds) (f : ℕ → Environment → Environment) (n : Int) (r : RangedValue) (g : n ≡ int_at value_most text 0)
-      (h : (line : ℕ) → value_outcome line r ≡ ranged line b (digit_run n)) where
-    abbrev row : ℕ → Outcome (Environment → Environment)
-    row line = ranged line b (digit_run (int_at value_most text 0)) >>= (λ v. read_to_its_end mode line text (int_width (int_at value_most text 0)) >> going (f v))
+-- what is put where it belongs may be put there at once
+at_once : {A B : Type 0} (m : Outcome A) (k : Outcome (Unit {0})) (f : A → B) → ((m >>= (λ v. k >> going v)) >>= (λ v. going (f v))) ≡ (m >>= (λ v. k >> going (f v)))
+unfolding ◌>>=◌ ◌>>◌
+at_once (going x) (going u) f = refl
+at_once (going x) (refused n l) f = refl
+at_once (refused n l) k f = refl
 
-    within : (q : RangedValue) → r ≡ q → (line : ℕ) → ranged line b (digit_run (int_at value_most text 0)) ≡ value_outcome line q
-    within q e line = sym (ap (value_outcome line) (sym e) ∙ h line ∙ ap (λ (x : Int). ranged line b (digit_run x)) g)
+module _ (mode : Mode) (text : List ℕ) (line : ℕ) where
+  -- the rows of numbers
+  abbrev row : Bounds → (ℕ → Environment → Environment) → Outcome (Environment → Environment)
+  row b f = ranged line b (digit_run (int_at value_most text 0)) >>= (λ v. read_to_its_end mode line text (int_width (int_at value_most text 0)) >> going (f v))
 
-    module _ (v stop : ℕ) (i : stop ≡ int_width n) where
-      stops : int_width (int_at value_most text 0) ≡ stop
-      stops = sym (i ∙ ap int_width g)
+  row_is : (b : Bounds) (f : ℕ → Environment → Environment) → (number_read mode line b text >>= (λ v. going (f v))) ≡ row b f
+  unfolding number_read
+  row_is b f = at_once (ranged line b (digit_run (int_at value_most text 0))) (read_to_its_end mode line text (int_width (int_at value_most text 0))) f
 
-      row_to : r ≡ RangedValue.Value v → tailed mode stop (length text) ≡ false → (line : ℕ) → going (f v) ≡ row line
-      unfolding value_outcome ◌>>=◌ ◌>>◌
-      row_to e t line = sym (rw (within _ e line, stops, read_through mode line text stop t))
+  row_to : (b : Bounds) (f : ℕ → Environment → Environment) (v : ℕ) → going v ≡ number_read mode line b text → going (f v) ≡ row b f
+  row_to b f v h = sym (then_going v (number_read mode line b text) (λ v. going (f v)) (sym h)) ∙ row_is b f
 
-      row_tailed : r ≡ RangedValue.Value v → tailed mode stop (length text) ≡ true → (line : ℕ) → refused 32 line ≡ row line
-      unfolding value_outcome ◌>>=◌ ◌>>◌
-      row_tailed e t line = sym (rw (within _ e line, stops, read_tail mode line text stop t))
+  row_refused : (b : Bounds) (f : ℕ → Environment → Environment) (n : ℕ) → refused n line ≡ number_read mode line b text → refused n line ≡ row b f
+  row_refused b f n h = sym (then_refused n line (number_read mode line b text) (λ v. going (f v)) (sym h)) ∙ row_is b f
 
-    row_refused : (k : ℕ) → r ≡ RangedValue.Refused k → (line : ℕ) → refused k line ≡ row line
-    unfolding value_outcome ◌>>=◌
-    row_refused k e line = sym (rw (within _ e line))
-
-  module _ (n : Int) (r : RangedValue) (g : n ≡ int_at value_most text 0) where
-    module _ (h : (line : ℕ) → value_outcome line r ≡ ranged line tempos (digit_run n)) where
-      pub tempo_to : (v stop : ℕ) → stop ≡ int_width n → r ≡ RangedValue.Value v → tailed mode stop (length text) ≡ false
-          → (line : ℕ) → directive_outcome line (Tempo v) ≡ change_of mode line (bytes "#tempo") text
-      unfolding change_of directives row_named same bytes directive_outcome
-      tempo_to v stop i e t line = row_to tempos _ n r g h v stop i e t line
-
-      pub tempo_tailed : (v stop : ℕ) → stop ≡ int_width n → r ≡ RangedValue.Value v → tailed mode stop (length text) ≡ true
-          → (line : ℕ) → directive_outcome line (Refused 32) ≡ change_of mode line (bytes "#tempo") text
-      unfolding change_of directives row_named same bytes directive_outcome
-      tempo_tailed v stop i e t line = row_tailed tempos _ n r g h v stop i e t line
-
-      pub tempo_refused : (k : ℕ) → r ≡ RangedValue.Refused k → (line : ℕ) → directive_outcome line (Refused k) ≡ change_of mode line (bytes "#tempo") text
-      unfolding change_of directives row_named same bytes directive_outcome
-      tempo_refused k e line = row_refused tempos _ n r g h k e line
-
-    module _ (h : (line : ℕ) → value_outcome line r ≡ ranged line denominators (digit_run n)) where
-      pub denominator_to : (v stop : ℕ) → stop ≡ int_width n → r ≡ RangedValue.Value v → tailed mode stop (length text) ≡ false
-          → (line : ℕ) → directive_outcome line (Denominator v) ≡ change_of mode line (bytes "#denom") text
-      unfolding change_of directives row_named same bytes directive_outcome
-      denominator_to v stop i e t line = row_to denominators _ n r g h v stop i e t line
-
-      pub denominator_tailed : (v stop : ℕ) → stop ≡ int_width n → r ≡ RangedValue.Value v → tailed mode stop (length text) ≡ true
-          → (line : ℕ) → directive_outcome line (Refused 32) ≡ change_of mode line (bytes "#denom") text
-      unfolding change_of directives row_named same bytes directive_outcome
-      denominator_tailed v stop i e t line = row_tailed denominators _ n r g h v stop i e t line
-
-      pub denominator_refused : (k : ℕ) → r ≡ RangedValue.Refused k → (line : ℕ) → directive_outcome line (Refused k) ≡ change_of mode line (bytes "#denom") text
-      unfolding change_of directives row_named same bytes directive_outcome
-      denominator_refused k e line = row_refused denominators _ n r g h k e line
-
-  module _ (k : Key) (next : ℕ) (e : key_at text 0 ≡ Found k next) where
-    key_read_law : (line : ℕ) → change_of mode line (bytes "#key") text ≡ (read_to_its_end mode line text next >> going (with_key k))
-    unfolding change_of directives row_named same bytes key_width
-    key_read_law line = then_going k _ _ (key_found_law line (key_at text 0) k next e) ∙ rw e
-
-    pub key_to : tailed mode next (length text) ≡ false → (line : ℕ) → directive_outcome line (OfKey k) ≡ change_of mode line (bytes "#key") text
-    unfolding directive_outcome ◌>>◌
-    key_to t line = sym (key_read_law line ∙ rw (read_through mode line text next t))
-
-    pub key_tailed : tailed mode next (length text) ≡ true → (line : ℕ) → directive_outcome line (Refused 32) ≡ change_of mode line (bytes "#key") text
-    unfolding directive_outcome ◌>>◌
-    key_tailed t line = sym (key_read_law line ∙ rw (read_tail mode line text next t))
-
-  pub key_refused : key_at text 0 ≡ Absent → (line : ℕ) → directive_outcome line (Refused 9) ≡ change_of mode line (bytes "#key") text
+  pub tempo_to : (v : ℕ) → going v ≡ number_read mode line tempos text → directive_outcome line (Ok (Tempo v)) ≡ change_of mode line (bytes "#tempo") text
   unfolding change_of directives row_named same bytes directive_outcome
-  key_refused e line = sym (then_refused _ line _ _ (key_absent line (key_at text 0) e))
+  tempo_to v h = row_to tempos with_tempo v h
+
+  pub tempo_refused : (why : Refusal) → outcome_on line (Err why) ≡ number_read mode line tempos text
+      → directive_outcome line (Err why) ≡ change_of mode line (bytes "#tempo") text
+  unfolding change_of directives row_named same bytes directive_outcome
+  tempo_refused why h = row_refused tempos with_tempo _ h
+
+  pub denominator_to : (v : ℕ) → going v ≡ number_read mode line denominators text
+      → directive_outcome line (Ok (Denominator v)) ≡ change_of mode line (bytes "#denom") text
+  unfolding change_of directives row_named same bytes directive_outcome
+  denominator_to v h = row_to denominators with_denominator v h
+
+  pub denominator_refused : (why : Refusal) → outcome_on line (Err why) ≡ number_read mode line denominators text
+      → directive_outcome line (Err why) ≡ change_of mode line (bytes "#denom") text
+  unfolding change_of directives row_named same bytes directive_outcome
+  denominator_refused why h = row_refused denominators with_denominator _ h
+
+  module _ (found : Parsed Key) (e : key_at text 0 ≡ Some found) where
+    key_read_law : change_of mode line (bytes "#key") text ≡ (read_to_its_end mode line text found.next >> going (with_key found.value))
+    unfolding change_of directives row_named same bytes key_width
+    key_read_law = then_going found.value _ _ (key_found_law line (key_at text 0) found e) ∙ rw e
+
+    pub key_to : tailed mode found.next (length text) ≡ false → directive_outcome line (Ok (OfKey found.value)) ≡ change_of mode line (bytes "#key") text
+    unfolding directive_outcome ◌>>◌
+    key_to t = sym (key_read_law ∙ rw (read_through mode line text found.next t))
+
+    pub key_tailed : tailed mode found.next (length text) ≡ true → directive_outcome line (Err Tail) ≡ change_of mode line (bytes "#key") text
+    unfolding directive_outcome ◌>>◌
+    key_tailed t = sym (key_read_law ∙ rw (read_tail mode line text found.next t))
+
+  pub key_refused : key_at text 0 ≡ None → directive_outcome line (Err NoAccidental) ≡ change_of mode line (bytes "#key") text
+  unfolding change_of directives row_named same bytes directive_outcome
+  key_refused e = sym (then_refused _ line _ _ (key_absent line (key_at text 0) e))
 
 -- ---- which row a name has
 
@@ -129,7 +136,7 @@ module _ (mode : Mode) (name text : List ℕ) (line : ℕ) where
   key_named e f g = rw (e, f, g, row_named)
 
   pub unnamed : same name (bytes "#tempo") ≡ false → same name (bytes "#denom") ≡ false → same name (bytes "#key") ≡ false
-      → directive_outcome line (Refused 6) ≡ change_of mode line name text
+      → directive_outcome line (Err UnknownDirective) ≡ change_of mode line name text
   unfolding change_of directives row_named same bytes directive_outcome
   unnamed e f g = rw (e, f, g, row_named)
 
@@ -174,7 +181,7 @@ module _ (l : List ℕ) (p : NameAt) (e : p ≡ name_at l) where
   place_within = rw e (name_within l)
 
   -- 7, or what the two tokens say
-  pub under_two : p.two ≡ false → (mode : Mode) (line : ℕ) → directive_outcome line (Refused 7) ≡ directive_of mode line l
+  pub under_two : p.two ≡ false → (mode : Mode) (line : ℕ) → directive_outcome line (Err NoNumber) ≡ directive_of mode line l
   unfolding directive_outcome directive_of named_by ◌>>=◌ refuse◌on◌without◌
   under_two t mode line = let z : named_of l ≡ none = sym found ∙ rw t in rw z
 

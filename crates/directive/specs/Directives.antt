@@ -1,18 +1,20 @@
 -- Directives, as document 01 has them: "A directive changes the starting environment and every existing part's." Here is how a directive's two tokens
 -- say what is changed; `applied` carries the change out. Assumes nothing.
-use Rattle.std.specs.Prelude.{List, [], ◌∷◌, map, ◌++◌, ℕ, take, drop}
+use Rattle.std.specs.Prelude.{Result, Ok, Err, List, [], ◌∷◌, map, ◌++◌, ℕ, take, drop}
 use Prim.Native.String.{String}
 use Rattle.text.specs.Characters.{row_named}
 use Rattle.lines.specs.Tokens.{named_of, first_token}
 use Rattle.number.specs.Digits.{value_most, int_at, int_width}
+use Rattle.sheet.specs.declared.refusal.Refusal.{Refusal}
+use Rattle.sheet.specs.Numbers.{number_of}
 use Rattle.sheet.specs.Refusals.{Outcome, going, refused, ◌>>=◌, ◌>>◌, refuse◌on◌without◌}
 use Rattle.strict.specs.declared.mode.Mode.{Mode}
 use Rattle.strict.specs.Strict.{read_to_its_end}
 use Rattle.environment.specs.declared.environment.Environment.{Environment}
 use Rattle.directive.specs.declared.directive.Directive.{Directive}
-use Rattle.directive.specs.declared.directive.Directive.TheVariants.{Tempo, Denominator, OfKey, Refused}
+use Rattle.directive.specs.declared.directive.Directive.TheVariants.{Tempo, Denominator, OfKey}
 use Rattle.keys.specs.Keys.{key_at, key_width}
-use Rattle.environment.specs.Bounds.{denominators, tempos}
+use Rattle.environment.specs.Bounds.{Bounds, denominators, tempos}
 use Rattle.environment.specs.Environment.{with_tempo, with_denominator, with_key}
 use Rattle.environment.specs.Ranges.{digit_run, ranged, key_outcome}
 
@@ -43,6 +45,14 @@ directives mode line = (
     )
     ∷ []
 
+-- the number within bounds that a token begins with, and in strict mode is
+unfoldable pub number_read : Mode → ℕ → Bounds → List ℕ → Outcome ℕ
+unfolding ranged digit_run int_at read_to_its_end int_width
+number_read mode line b text = do
+  v ← ranged line b (digit_run (int_at value_most text 0))
+  read_to_its_end mode line text (int_width (int_at value_most text 0))
+  going v
+
 -- "6, then value"
 unfoldable pub change_of : Mode → ℕ → List ℕ → List ℕ → Outcome (Environment → Environment)
 unfolding row_named directives
@@ -57,20 +67,20 @@ directive_of mode line l = do
 
 -- ---- answers: what each case stands for, on a line
 
-unfoldable pub directive_outcome : ℕ → Directive → Outcome (Environment → Environment)
-directive_outcome line (Tempo v) = going (with_tempo v)
-directive_outcome line (Denominator v) = going (with_denominator v)
-directive_outcome line (OfKey k) = going (with_key k)
-directive_outcome line (Refused n) = refused n line
+unfoldable pub directive_outcome : ℕ → Result Directive Refusal → Outcome (Environment → Environment)
+directive_outcome line (Ok (Tempo v)) = going (with_tempo v)
+directive_outcome line (Ok (Denominator v)) = going (with_denominator v)
+directive_outcome line (Ok (OfKey k)) = going (with_key k)
+directive_outcome line (Err why) = refused (number_of why) line
 
 -- the change carried out; a refusal changes nothing
-unfoldable pub applied : Directive → Environment → Environment
-applied (Tempo v) e = with_tempo v e
-applied (Denominator v) e = with_denominator v e
-applied (OfKey k) e = with_key k e
-applied (Refused n) e = e
+unfoldable pub applied : Result Directive Refusal → Environment → Environment
+applied (Ok (Tempo v)) e = with_tempo v e
+applied (Ok (Denominator v)) e = with_denominator v e
+applied (Ok (OfKey k)) e = with_key k e
+applied (Err why) e = e
 
 -- the same on the first n environments: "A directive changes .. every existing part's"
-unfoldable pub applied_to : Directive → ℕ → List Environment → List Environment
+unfoldable pub applied_to : Result Directive Refusal → ℕ → List Environment → List Environment
 unfolding applied
 applied_to d n es = map (applied d) (take n es) ++ drop n es

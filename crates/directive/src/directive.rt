@@ -3,98 +3,81 @@
 ghost use Rattle.std.specs.Prelude.{◌≡◌, ℕ};
 ghost use Rattle.text.specs.Quoted.{bytes};
 ghost use Rattle.number.specs.Digits.{int_width};
-ghost use Rattle.directive.specs.Directives.{change_of, directive_of, directive_outcome, applied, applied_to};
+ghost use Rattle.sheet.specs.Numbers.{outcome_on};
+ghost use Rattle.environment.specs.Bounds.{bounds};
+ghost use Rattle.directive.specs.Directives.{number_read, change_of, directive_of, directive_outcome, applied, applied_to};
 
 use environment::environment::Environment;
-use environment::range::{RangedValue, ranged_value};
-use keys::key::{Key, KeyAt, key_at};
-use lines::names::{least, name_at};
-use number::digits::{Int, eat_int};
+use environment::range::ranged_value;
+use keys::key::{Key, key_at};
+use lines::names::{NameAt, name_at};
+use number::digits::eat_int;
+use sheet::refusal::Refusal;
 use strict::mode::{Mode, has_tail};
 use text::blanks::{blanks_end, ink_end};
 use text::characters::same_text;
+use text::parsed::{Parsed, next_or};
 
-// What is changed, or the number of a refusal.
+// The most that a digit run of a value may be.
+const VALUE_MOST: u64 = 4294967295;
+
+// What is changed.
 #[derive(Clone, Copy)]
 pub enum Directive {
     Tempo(u32),
     Denominator(u32),
     OfKey(Key),
-    Refused(u32),
 }
 
 // The place at which the reading of a value stopped: 0 where there is no digit run.
-fn run_stop(n: Int) -> usize
+#[tactic(auto, unfolding(number::specs::Digits::int_width))]
+fn run_stop(n: Option<Parsed<u64>>) -> usize
     ensures { result ≡ int_width n }
 {
-    match n {
-        Int::Number(_, next) => {
-            return next;
-        }
-        Int::Absent => {
-            return 0;
-        }
-    }
+    next_or(n, 0)
 }
 
-// The value of `#tempo`: what its token begins with.
-fn tempo(value: &[u8], mode: Mode) -> Directive
+// The number between two bounds that a token begins with, and in strict mode is.
+fn number(value: &[u8], mode: Mode, least: u32, most: u32) -> Result<u32, Refusal>
+    ensures { (line : ℕ) → outcome_on line result ≡ number_read mode line (bounds least most) value.now }
+{
+    let n = eat_int(value, 0, VALUE_MOST);
+    let number = ranged_value(n, least, most)?;
+    if has_tail(mode, run_stop(n), value.len()) {
+        return Err(Refusal::Tail);
+    }
+    Ok(number)
+}
+
+// The value of `#tempo`.
+fn tempo(value: &[u8], mode: Mode) -> Result<Directive, Refusal>
     ensures { (line : ℕ) → directive_outcome line result ≡ change_of mode line (bytes "#tempo") value.now }
 {
-    let n = eat_int(value, 0, 4294967295);
-    let found = ranged_value(n, Environment::MIN_TEMPO, Environment::MAX_TEMPO);
-    match found {
-        RangedValue::Value(v) => {
-            if has_tail(mode, run_stop(n), value.len()) {
-                return Directive::Refused(32);
-            }
-            return Directive::Tempo(v);
-        }
-        RangedValue::Refused(number) => {
-            return Directive::Refused(number);
-        }
-    }
+    let tempo = number(value, mode, Environment::MIN_TEMPO, Environment::MAX_TEMPO)?;
+    Ok(Directive::Tempo(tempo))
 }
 
 // The value of `#denom`.
-fn denominator(value: &[u8], mode: Mode) -> Directive
+fn denominator(value: &[u8], mode: Mode) -> Result<Directive, Refusal>
     ensures { (line : ℕ) → directive_outcome line result ≡ change_of mode line (bytes "#denom") value.now }
 {
-    let n = eat_int(value, 0, 4294967295);
-    let found = ranged_value(n, Environment::MIN_DENOM, Environment::MAX_DENOM);
-    match found {
-        RangedValue::Value(v) => {
-            if has_tail(mode, run_stop(n), value.len()) {
-                return Directive::Refused(32);
-            }
-            return Directive::Denominator(v);
-        }
-        RangedValue::Refused(number) => {
-            return Directive::Refused(number);
-        }
-    }
+    let denominator = number(value, mode, Environment::MIN_DENOM, Environment::MAX_DENOM)?;
+    Ok(Directive::Denominator(denominator))
 }
 
 // The value of `#key`.
-fn key(value: &[u8], mode: Mode) -> Directive
+fn key(value: &[u8], mode: Mode) -> Result<Directive, Refusal>
     ensures { (line : ℕ) → directive_outcome line result ≡ change_of mode line (bytes "#key") value.now }
 {
-    let found = key_at(value, 0);
-    match found {
-        KeyAt::Found(k, next) => {
-            if has_tail(mode, next, value.len()) {
-                return Directive::Refused(32);
-            }
-            return Directive::OfKey(k);
-        }
-        KeyAt::Absent => {
-            return Directive::Refused(9);
-        }
+    let key = key_at(value, 0).ok_or(Refusal::NoAccidental)?;
+    if has_tail(mode, key.next, value.len()) {
+        return Err(Refusal::Tail);
     }
+    Ok(Directive::OfKey(key.value))
 }
 
-// What a name and a value say: 6 where no directive has the name.
-fn change(name: &[u8], value: &[u8], mode: Mode) -> Directive
+// What a name and a value say: refused where no directive has the name.
+fn change(name: &[u8], value: &[u8], mode: Mode) -> Result<Directive, Refusal>
     ensures { (line : ℕ) → directive_outcome line result ≡ change_of mode line name.now value.now }
 {
     if same_text(name, b"#tempo") {
@@ -106,19 +89,16 @@ fn change(name: &[u8], value: &[u8], mode: Mode) -> Directive
     if same_text(name, b"#key") {
         return key(value, mode);
     }
-    Directive::Refused(6)
+    Err(Refusal::UnknownDirective)
 }
 
-// What a line says that begins with `#`: 7 where it has under two tokens, then what its name and its value say.
-pub fn read_directive(l: &[u8], mode: Mode) -> Directive
+// What a line says that begins with `#`: refused where it has under two tokens, else what its name and its value say.
+pub fn read_directive(l: &[u8], mode: Mode) -> Result<Directive, Refusal>
     ensures { (line : ℕ) → directive_outcome line result ≡ directive_of mode line l.now }
 {
-    let place = name_at(l);
-    let from = place.from;
-    let end = place.end;
-    let two = place.two;
+    let NameAt { from, end, two } = name_at(l);
     if !two {
-        return Directive::Refused(7);
+        return Err(Refusal::NoNumber);
     }
     let name = &l[from..end];
     let next = blanks_end(l, end);
@@ -128,39 +108,33 @@ pub fn read_directive(l: &[u8], mode: Mode) -> Directive
 }
 
 // The change carried out on an environment. A refusal changes nothing.
-pub fn apply(d: Directive, env: Environment) -> Environment
+#[tactic(auto, unfolding(crate::specs::Directives::applied))]
+pub fn apply(d: Result<Directive, Refusal>, env: Environment) -> Environment
     ensures { result ≡ applied d env }
 {
-    let mut next = env;
     match d {
-        Directive::Tempo(v) => {
-            next.tempo = v;
-            return next;
-        }
-        Directive::Denominator(v) => {
-            next.denominator = v;
-            return next;
-        }
-        Directive::OfKey(k) => {
-            next.key = k;
-            return next;
-        }
-        Directive::Refused(_) => {
-            return next;
-        }
+        Ok(Directive::Tempo(v)) => Environment { tempo: v, ..env },
+        Ok(Directive::Denominator(v)) => Environment {
+            denominator: v,
+            ..env
+        },
+        Ok(Directive::OfKey(k)) => Environment { key: k, ..env },
+        Err(_) => env,
     }
 }
 
 // The environments of parts with a directive carried out on each of the first n, at most 16 of them.
-pub fn apply_to_parts(d: Directive, envs: [Environment; 16], n: usize) -> [Environment; 16]
+pub fn apply_to_parts(
+    d: Result<Directive, Refusal>,
+    mut envs: [Environment; 16],
+    n: usize,
+) -> [Environment; 16]
     ensures { result ≡ applied_to d n envs }
 {
-    let most = least(n, 16);
-    let mut own = envs;
-    let mut i = 0;
-    while i < most {
-        own[i] = apply(d, own[i]);
-        i += 1;
+    let most = n.min(envs.len());
+    let existing = &mut envs[..most];
+    for env in existing.iter_mut() {
+        *env = apply(d, *env);
     }
-    own
+    envs
 }

@@ -1,42 +1,34 @@
 -- `apply_to_parts` carries the directive out on one environment after the other. Assumes nothing.
 use mathlib.Core.Path.{◌≡◌, ap, ◌∙◌}
-use mathlib.Core.List.{List}
-use Prim.Native.Nat.{ℕ, ◌+◌, ◌-◌, ◌≤◌, ◌<◌, min}
+use mathlib.Core.List.{List, ◌++◌}
+use Prim.Native.Nat.{ℕ, min}
 use native.Mathlib.Omega.{arith}
-use lib.ListN.{get_or, set}
+use lib.ListN.{length, take, drop, get_or, set}
 use Rattle.environment.specs.declared.environment.Environment.{Environment}
 use Rattle.directive.specs.Directives.{applied, applied_to}
-use Rattle.directive.proofs.Parts.{none_applied, applied_more, applied_most}
-use borrow.Author.Rules.{rules}
+use Rattle.directive.proofs.Parts.{none_applied, applied_more, applied_front, applied_most}
 use Rattle.directive.proofs.directive.apply_to_parts.Goals as goal
 
-below : (i most n long : ℕ) → i < most → most ≡ min n 16 → long ≡ 16 → i < long
-below i most n long h e l = omega (arith, h, e, l)
+pub loop-env-init : goal.loop-env-init
+loop-env-init c = none_applied _ _
 
-one_more : (i most : ℕ) → i < most → i + 1 ≤ most
-one_more i most h = omega (arith, h)
-
-met : (i most n long : ℕ) → i ≤ most → most ≤ i → most ≡ min n 16 → long ≡ 16 → i ≡ min n long
-met i most n long h m e l = omega (arith, h, m, e, l)
-
-pub loop-i-init : goal.loop-i-init
-loop-i-init c = (none_applied _ _, omega arith)
-
-pub loop-i-preserved : goal.loop-i-preserved
-loop-i-preserved c =
-    let l = c.loop-i in
+pub loop-env-preserved : goal.loop-env-preserved
+loop-env-preserved c =
+    let l = c.loop-env in
     let a = c.args in
-    let h = c.loop-i-test.true in (
-      ap (λ (e : Environment). set l.own l.i e) c.apply.ensures
-          ∙ ap (λ (es : List Environment). set es l.i (applied a.d (get_or es l.i _))) l.invariant.0
-          ∙ applied_more a.d l.i a.envs _ (below l.i _ a.n _ h c.least-most.ensures c.well_formed.1.0.1.0.1),
-      one_more l.i _ h,
-    )
+    ap (λ (e : Environment). set l.existing l.env-index e) c.apply.ensures
+    ∙ ap (λ (es : List Environment). set es l.env-index (applied a.d (get_or es l.env-index _))) l.invariant
+    ∙ applied_more a.d l.env-index (take c.min-most.result a.envs) _ c.loop-env-test.true
 
 pub returns : goal.returns
 returns c =
-    let l = c.loop-i in
+    let l = c.loop-env in
     let a = c.args in
-    l.invariant.0
-    ∙ ap (λ (k : ℕ). applied_to a.d k a.envs) (met l.i _ a.n _ l.invariant.1 c.loop-i-test.false c.least-most.ensures c.well_formed.1.0.1.0.1)
+    let most = c.min-most.result in
+    let all : l.env-index ≡ length (take most a.envs) = omega arith in
+    let long : length a.envs ≡ 16 = omega arith in
+    let least : most ≡ min a.n (length a.envs) = omega arith in
+    ap (λ (es : List Environment). es ++ drop most a.envs) (l.invariant ∙ ap (λ (k : ℕ). applied_to a.d k (take most a.envs)) all)
+    ∙ applied_front a.d most a.envs
+    ∙ ap (λ (k : ℕ). applied_to a.d k a.envs) least
     ∙ applied_most a.d a.n a.envs

@@ -1,6 +1,5 @@
 -- `change` answers by the first row of the table that has the name. Assumes nothing.
 use mathlib.Core.Path.{sym, ◌∙◌}
-use borrow.Author.Rules.{rules}
 use Rattle.text.specs.Quoted.{bytes}
 use Rattle.directive.proofs.Rows.{tempo_named, denominator_named, key_named, unnamed}
 use Rattle.directive.proofs.directive.change.Goals as goal

@@ -1,20 +1,12 @@
--- `denominator` is what `ranged_value` answers, as a denominator, once the token is read to its end. Assumes nothing.
-use mathlib.Core.Path.{sym, ◌∙◌}
-use borrow.Author.Rules.{rules}
-use Rattle.directive.proofs.Rows.{denominator_to, denominator_tailed, denominator_refused}
+-- `denominator` is what `number` answers, as a denominator. Assumes nothing.
+use Rattle.std.proofs.lemmas.Result.{err_from_is_err_and}
+use Rattle.directive.proofs.Rows.{denominator_to, denominator_refused}
 use Rattle.directive.proofs.directive.denominator.Goals as goal
 
-pub returns-then-has_tail : goal.returns-then-has_tail
-returns-then-has_tail c =
-    denominator_tailed _ _ _ _ c.eat_int-n.ensures c.ranged_value-found.ensures _ _
-    c.run_stop.ensures c.in-Value.is (sym c.has_tail.ensures ∙ c.if-has_tail.true)
+pub returns-in_err-denominator : goal.returns-in_err-denominator
+returns-in_err-denominator c = λ line.
+    let p = err_from_is_err_and c.from_residual.result c.from_residual.ensures.1 in
+    rw (p.1, p.2) (denominator_refused _ _ line _ (c.in_err-denominator.ensures line))
 
-pub returns-in-Value : goal.returns-in-Value
-returns-in-Value c =
-    denominator_to _ _ _ _ c.eat_int-n.ensures c.ranged_value-found.ensures _ _
-    c.run_stop.ensures c.in-Value.is (sym c.has_tail.ensures ∙ c.if-has_tail.false)
-
-pub returns-in-Refused : goal.returns-in-Refused
-returns-in-Refused c =
-    denominator_refused _ _ _ _ c.eat_int-n.ensures
-    c.ranged_value-found.ensures _ c.in-Refused.is
+pub returns : goal.returns
+returns c = λ line. denominator_to _ _ line _ (c.in_ok-denominator.ensures line)
