@@ -1,8 +1,7 @@
 -- Commands that change the environment: what a state with another environment has come of, and an instrument by its name. Assumes nothing.
-use mathlib.Core.Path.{◌≡◌, refl, ap, subst, ◌∙◌}
-use mathlib.Core.Bool.{Bool, true, false}
-use mathlib.Core.List.{List, [], ◌∷◌}
-use mathlib.Core.Option.{none, some}
+use mathlib.Core.Path.{◌≡◌, ap, subst, ◌∙◌}
+use mathlib.Core.List.{List}
+use mathlib.Core.Option.{some}
 use Prim.Native.Nat.{ℕ, zero, suc, ◌+◌, ◌≤◌, ◌<◌}
 use native.Mathlib.Omega.{arith}
 use lib.ListN.{length}
@@ -10,8 +9,9 @@ use lib.Ieee.{Float}
 use Rattle.lines.specs.Names.{place_among}
 use Rattle.sheet.specs.Refusals.{Outcome, going, refused, ◌>>=◌, refuse◌on◌without◌}
 use Rattle.environment.specs.declared.environment.Environment.{Environment}
-use Rattle.settings.specs.declared.command.Changed.{Changed}
-use Rattle.settings.specs.declared.command.Changed.TheVariants.{To, Refused}
+use Rattle.std.specs.Prelude.{Result, Ok, Err}
+use Rattle.sheet.specs.declared.refusal.Refusal.{Refusal}
+use Rattle.sheet.specs.Numbers.{number_of}
 use Rattle.settings.specs.Changes.{change_outcome, Low}
 use Rattle.environment.specs.Environment.{with_instrument}
 use Rattle.items.specs.Items.{instrument}
@@ -19,8 +19,8 @@ use Rattle.tables.proofs.Named.{place_found, place_none}
 use Rattle.part.specs.declared.state.State.{State}
 use Rattle.tables.specs.Named.{Macro, place_of}
 use Rattle.part.specs.Body.{Book, Progress, changed_to, changing, does}
-use Rattle.part.specs.Columns.{progress_of, Ready, Becomes}
-use Rattle.part.proofs.Columns.{with_env, refused_at, refused_becomes, going_becomes}
+use Rattle.part.specs.Columns.{progress_of, Ready, Becomes, refused_at}
+use Rattle.part.proofs.Columns.{with_env, refused_becomes, going_becomes}
 
 -- ---- states
 
@@ -39,21 +39,21 @@ module _ (s : State) (line : ℕ) (fs : List Float) (is ls : List ℕ) (r : Read
       (record { few = r.deep.few; places = r.deep.places })
       r.goes o q
 
-module _ (s : State) (line : ℕ) (c : Changed) (low : Low (change_outcome line c)) where
+module _ (s : State) (line : ℕ) (c : Result Environment Refusal) (low : Low (change_outcome line c)) where
   -- what a command came to
-  pub change_to : (e : Environment) → c ≡ To e → (fs : List Float) (is ls : List ℕ) → Ready s fs is ls
+  pub change_to : (e : Environment) → c ≡ Ok e → (fs : List Float) (is ls : List ℕ) → Ready s fs is ls
       → Becomes (changing (change_outcome line c) (progress_of s fs is ls)) (with_env s e) fs is ls
-  unfolding changing change_outcome Low ◌>>=◌
+  unfolding changing Low ◌>>=◌
   change_to e q fs is ls r =
       changed_becomes s line fs is ls r e _ (subst Low (ap (change_outcome line) q) low)
-      (ap (λ (x : Changed). changing (change_outcome line x) (progress_of s fs is ls)) q)
+      (ap (λ (x : Result Environment Refusal). changing (change_outcome line x) (progress_of s fs is ls)) q)
 
-  pub change_refused : (n : ℕ) → c ≡ Refused n → (fs : List Float) (is ls : List ℕ) → Ready s fs is ls
-      → Becomes (changing (change_outcome line c) (progress_of s fs is ls)) (refused_at s n line) fs is ls
-  unfolding changing change_outcome Low ◌>>=◌
-  change_refused n q fs is ls r =
-      refusal_becomes s line fs is ls r n _ (subst Low (ap (change_outcome line) q) low)
-      (ap (λ (x : Changed). changing (change_outcome line x) (progress_of s fs is ls)) q)
+  pub change_refused : (why : Refusal) → c ≡ Err why → (fs : List Float) (is ls : List ℕ) → Ready s fs is ls
+      → Becomes (changing (change_outcome line c) (progress_of s fs is ls)) (refused_at s (number_of why) line) fs is ls
+  unfolding changing Low ◌>>=◌
+  change_refused why q fs is ls r =
+      refusal_becomes s line fs is ls r (number_of why) _ (subst Low (ap (change_outcome line) q) low)
+      (ap (λ (x : Result Environment Refusal). changing (change_outcome line x) (progress_of s fs is ls)) q)
 
 -- ---- instruments by name
 

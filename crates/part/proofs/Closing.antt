@@ -21,9 +21,9 @@ use Rattle.loops.proofs.Repeats.{laid_length}
 use Rattle.part.specs.declared.state.State.{State}
 use Rattle.part.specs.Body.{Progress, Book, with_notes, opened, cut_here, closed}
 use Rattle.columns.specs.Columns.{notes_in}
-use Rattle.part.specs.Columns.{loops_in, progress_of, Room, Deep, Becomes}
+use Rattle.part.specs.Columns.{loops_in, progress_of, Room, Deep, Becomes, refused_at}
 use Rattle.columns.proofs.Columns.{notes_front}
-use Rattle.part.proofs.Columns.{notes_count, loops_count, refused_becomes, going_becomes, refused_at, with_counts}
+use Rattle.part.proofs.Columns.{notes_count, loops_count, refused_becomes, going_becomes, with_counts}
 use Rattle.part.proofs.Played.{notes_repeated}
 
 -- ---- the column of the loops

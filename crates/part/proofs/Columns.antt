@@ -11,7 +11,7 @@ use Rattle.environment.specs.declared.environment.Environment.{Environment}
 use Rattle.part.specs.declared.state.State.{State}
 use Rattle.part.specs.Body.{Progress}
 use Rattle.columns.proofs.Columns.{notes_length}
-use Rattle.part.specs.Columns.{loops_in, progress_of, outcome_of, Room, Deep, Becomes}
+use Rattle.part.specs.Columns.{loops_in, progress_of, outcome_of, Room, Deep, Becomes, refused_at}
 
 -- ---- loops
 
@@ -21,11 +21,6 @@ loops_length zero ls = refl
 loops_length (suc n) ls = ap suc (loops_length n ls)
 
 -- ---- states
-
--- a state with a refusal
-abbrev pub refused_at : State → ℕ → ℕ → State
-refused_at s n l =
-    record { env = s.env; count = s.count; others = s.others; depth = s.depth; steps = s.steps; refusal = n; line = l }
 
 -- a state with other notes and loops
 abbrev pub with_counts : State → ℕ → ℕ → State

@@ -8,31 +8,29 @@ use Prim.Native.Nat.{ℕ, ◌≤◌}
 use native.Mathlib.Omega.{arith}
 use lib.Ieee.{Float}
 use Rattle.lines.specs.Names.{between}
-use Rattle.number.specs.declared.digits.Int.{Int}
-use Rattle.number.specs.declared.decimal.Decimal.{Decimal}
+use Rattle.std.specs.Prelude.{Option as Answer, Result, Ok}
+use Rattle.text.specs.declared.parsed.Parsed.{Parsed}
+use Rattle.number.specs.declared.decimal.NoDecimal.{NoDecimal}
+use Rattle.sheet.specs.declared.refusal.Refusal.{Refusal}
 use Rattle.sheet.proofs.Basics.{false_true}
 use Rattle.sheet.specs.Refusals.{Outcome, going, ◌>>=◌}
 use Rattle.keys.specs.declared.key.Accidental.{Accidental}
 use Rattle.environment.specs.declared.environment.Environment.{Environment}
-use Rattle.settings.specs.declared.command.Changed.{Changed}
-use Rattle.settings.specs.declared.command.Changed.TheVariants.{To}
 use Rattle.keys.specs.declared.key.Key.{Key}
-use Rattle.keys.specs.declared.key.KeyAt.{KeyAt}
 use Rattle.settings.specs.Changes.{Low, change_outcome, octave_read, value_read, tempo_read, amplitude_read, key_read}
 use Rattle.environment.specs.Environment.{octave_up, octave_down}
 use Rattle.keys.specs.Keys.{accidental_found, key_found}
 use Rattle.environment.specs.Ranges.{Amount, digit_run, amount_of}
 use Rattle.part.specs.declared.state.State.{State}
 use Rattle.items.specs.declared.item.Item.{Item}
-use Rattle.items.specs.declared.item.Item.TheVariants as Item
 use Rattle.items.specs.declared.item.WrittenNote.{WrittenNote}
 use Rattle.tables.specs.Named.{Macro}
 use Rattle.part.specs.Body.{Book, Progress, noted, opened, cut_here, closed, changing, called, does}
-use Rattle.part.specs.Columns.{progress_of, Ready, Becomes}
+use Rattle.part.specs.Columns.{progress_of, Ready, Becomes, refused_at}
 use Rattle.items.specs.Items as Items
 use Rattle.notes.specs.Notes.{value_of}
 use Rattle.items.specs.Written.{item_of, is_call}
-use Rattle.part.proofs.Columns.{refused_at, refused_becomes}
+use Rattle.part.proofs.Columns.{refused_becomes}
 
 -- ---- which item it is
 
@@ -57,27 +55,27 @@ module _ (text : List ℕ) (at next : ℕ) (i : Item) where
   unfolding item_of
   written_cut e = ap (item_of text at next) e
 
-  pub written_closing : (n : Int) → i ≡ Item.Closing n → item_of text at next i ≡ Items.closing (digit_run n)
+  pub written_closing : (n : Answer (Parsed ℕ)) → i ≡ Item.Closing n → item_of text at next i ≡ Items.closing (digit_run n)
   unfolding item_of
   written_closing n e = ap (item_of text at next) e
 
-  pub written_octave : (n : Int) → i ≡ Item.Octave n → item_of text at next i ≡ Items.octave (digit_run n)
+  pub written_octave : (n : Answer (Parsed ℕ)) → i ≡ Item.Octave n → item_of text at next i ≡ Items.octave (digit_run n)
   unfolding item_of
   written_octave n e = ap (item_of text at next) e
 
-  pub written_value : (n : Int) → i ≡ Item.Value n → item_of text at next i ≡ Items.value (digit_run n)
+  pub written_value : (n : Answer (Parsed ℕ)) → i ≡ Item.Value n → item_of text at next i ≡ Items.value (digit_run n)
   unfolding item_of
   written_value n e = ap (item_of text at next) e
 
-  pub written_tempo : (n : Int) → i ≡ Item.Tempo n → item_of text at next i ≡ Items.tempo (digit_run n)
+  pub written_tempo : (n : Answer (Parsed ℕ)) → i ≡ Item.Tempo n → item_of text at next i ≡ Items.tempo (digit_run n)
   unfolding item_of
   written_tempo n e = ap (item_of text at next) e
 
-  pub written_amplitude : (d : Decimal) → i ≡ Item.Amplitude d → item_of text at next i ≡ Items.amplitude (amount_of d)
+  pub written_amplitude : (d : Result (Parsed Float) NoDecimal) → i ≡ Item.Amplitude d → item_of text at next i ≡ Items.amplitude (amount_of d)
   unfolding item_of
   written_amplitude d e = ap (item_of text at next) e
 
-  pub written_key : (k : KeyAt) → i ≡ Item.Key k → item_of text at next i ≡ Items.key (key_found k)
+  pub written_key : (k : Answer (Parsed Key)) → i ≡ Item.Key k → item_of text at next i ≡ Items.key (key_found k)
   unfolding item_of
   written_key k e = ap (item_of text at next) e
 
@@ -108,12 +106,12 @@ written_call text at next Item.Unknown e = false_true e
 
 -- ---- octaves stay in range
 
-pub low_up : (line : ℕ) (e r : Environment) → r ≡ octave_up e → Low (change_outcome line (To r))
-unfolding Low change_outcome octave_up
+pub low_up : (line : ℕ) (e r : Environment) → r ≡ octave_up e → Low (change_outcome line (Ok r))
+unfolding Low octave_up
 low_up line e r q = omega (arith, ap (λ (x : Environment). x.octave) q)
 
-pub low_down : (line : ℕ) (e r : Environment) → e.octave ≤ 8 → r ≡ octave_down e → Low (change_outcome line (To r))
-unfolding Low change_outcome octave_down
+pub low_down : (line : ℕ) (e r : Environment) → e.octave ≤ 8 → r ≡ octave_down e → Low (change_outcome line (Ok r))
+unfolding Low octave_down
 low_down line e r h q = omega (arith, h, ap (λ (x : Environment). x.octave) q)
 
 pub low_as : (o q : Outcome Environment) → o ≡ q → Low q → Low o
@@ -146,16 +144,16 @@ module _ (book : Book) (line : ℕ) (inner : Macro → Progress → Outcome Prog
   does_closing n b = record { room = b.room; deep = b.deep; means = b.means }
 
   -- the commands, where one came to this
-  module _ (c : Changed) (b : Becomes (changing (change_outcome line c) (progress_of s fs is ls)) r fs' is' ls') where
+  module _ (c : Result Environment Refusal) (b : Becomes (changing (change_outcome line c) (progress_of s fs is ls)) r fs' is' ls') where
     pub does_change : (o : Outcome Environment) → change_outcome line c ≡ o → Becomes (changing o (progress_of s fs is ls)) r fs' is' ls'
     does_change o e = record { room = b.room; deep = b.deep; means = b.means ∙ ap (λ (x : Outcome Environment). changing x (progress_of s fs is ls)) e }
 
-    pub does_up : c ≡ To (octave_up s.env) → Becomes (does book line inner Items.up (progress_of s fs is ls)) r fs' is' ls'
-    unfolding does progress_of changing change_outcome ◌>>=◌
+    pub does_up : c ≡ Ok (octave_up s.env) → Becomes (does book line inner Items.up (progress_of s fs is ls)) r fs' is' ls'
+    unfolding does progress_of changing ◌>>=◌
     does_up e = does_change (going (octave_up s.env)) (ap (change_outcome line) e)
 
-    pub does_down : c ≡ To (octave_down s.env) → Becomes (does book line inner Items.down (progress_of s fs is ls)) r fs' is' ls'
-    unfolding does progress_of changing change_outcome ◌>>=◌
+    pub does_down : c ≡ Ok (octave_down s.env) → Becomes (does book line inner Items.down (progress_of s fs is ls)) r fs' is' ls'
+    unfolding does progress_of changing ◌>>=◌
     does_down e = does_change (going (octave_down s.env)) (ap (change_outcome line) e)
 
     pub does_octave : (n : Option ℕ) → change_outcome line c ≡ octave_read line n s.env → Becomes (does book line inner (Items.octave n) (progress_of s fs is ls)) r fs' is' ls'

@@ -12,7 +12,8 @@ use lib.Seq.{take-suc-set, take-set-le, length-take-le, get_or-drop, get_or-set_
 use lib.Ieee.{Float, nan, inf, fin, binary32, add, mul}
 use borrow.Author.Tests.{le-leb, lt-leb, le-ltb, lt-ltb}
 use Rattle.ieee.specs.Constants.{plus_zero}
-use Rattle.tone.specs.declared.time.Length.{Length}
+use Rattle.std.specs.Prelude.{Result}
+use Rattle.tone.specs.declared.time.Uncounted.{Uncounted}
 use Rattle.tone.specs.Power.{frequency_of}
 use Rattle.tone.specs.Time.{duration_of, length_of}
 use Rattle.sheet.specs.declared.note.Note.{Note}
@@ -23,11 +24,11 @@ use Rattle.keys.specs.declared.key.Accidental.{Accidental}
 use Rattle.part.specs.declared.state.State.{State}
 use Rattle.part.specs.Body.{Progress, Book, noted, with_notes}
 use Rattle.columns.specs.Columns.{notes_in}
-use Rattle.part.specs.Columns.{loops_in, progress_of, Room, Deep, Becomes, laid}
+use Rattle.part.specs.Columns.{loops_in, progress_of, Room, Deep, Becomes, laid, refused_at}
 use Rattle.sheet.specs.Lengths.{sounding_of, is_counted}
 use Rattle.notes.specs.Notes.{semitone_of, amplitude_of, note_of}
 use Rattle.columns.proofs.Columns.{notes_append, notes_front}
-use Rattle.part.proofs.Columns.{notes_count, refused_becomes, going_becomes, refused_at, with_counts}
+use Rattle.part.proofs.Columns.{notes_count, refused_becomes, going_becomes, with_counts}
 
 -- ---- a note at the end of its part
 
@@ -131,7 +132,7 @@ module _ (s : State) (fs : List Float) (is ls : List ℕ) (room : Room s fs is) 
 -- ---- a note as it is written
 
 -- how long a note sounds
-abbrev sounds : Book → Environment → ℕ → Option Accidental → ℕ → Bool → Length
+abbrev sounds : Book → Environment → ℕ → Option Accidental → ℕ → Bool → Result ℕ Uncounted
 sounds book env letter acc v dot = sounding_of book.rate (get_or book.releases env.instrument nan) (note_of env letter acc v dot)
 
 -- the definition's refusals, and where it makes none the last of its steps

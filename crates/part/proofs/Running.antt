@@ -17,14 +17,15 @@ use Rattle.text.proofs.Fronts.{Stops, after_is, after_stops}
 use Rattle.sheet.proofs.Outcomes.{then_going, then_refused}
 use Rattle.sheet.specs.Refusals.{Outcome, refused, ◌>>=◌, ◌>>◌, refuse◌on◌unless◌, refuse◌on◌without◌}
 use Rattle.part.specs.declared.state.State.{State}
-use Rattle.items.specs.declared.item.Found.{Found}
+use Rattle.text.specs.declared.parsed.Parsed.{Parsed}
+use Rattle.items.specs.declared.item.Item.{Item as Written}
 use Rattle.tables.specs.Named.{Macro, macro_named}
 use Rattle.part.specs.Body.{Book, Progress, called, does, stepped, run, inside}
-use Rattle.part.specs.Columns.{progress_of, outcome_of, Ready, Becomes}
+use Rattle.part.specs.Columns.{progress_of, outcome_of, Ready, Becomes, refused_at}
 use Rattle.items.specs.Items as Items
 use Rattle.items.specs.Items.{item_at, items_from, items_of}
 use Rattle.items.specs.Written.{item_of, found_of}
-use Rattle.part.proofs.Columns.{refused_at, refused_becomes, going_becomes, outcome_going}
+use Rattle.part.proofs.Columns.{refused_becomes, going_becomes, outcome_going}
 
 -- ---- items
 
@@ -76,9 +77,9 @@ module _ (text : List ℕ) (at from : ℕ) (place : from ≡ at + length (front 
       items_behind ∙ ap (items_from 0) (drop-cons text from 0 h) ∙ items_ended (get_or text from 0) (drop (suc from) text) (ink_there h) e
 
   -- the item that the code has found, and what follows it
-  pub items_found : from < length text → (get_or text from 0 ≡ 59 → ⊥) → (f : Found)
+  pub items_found : from < length text → (get_or text from 0 ≡ 59 → ⊥) → (f : Parsed Written)
       → found_of text from f ≡ item_at (get_or text from 0) (drop (from + 1) text) → from < f.next
-      → items_from 0 (drop at text) ≡ item_of text from f.next f.item ∷ items_from 0 (drop f.next text)
+      → items_from 0 (drop at text) ≡ item_of text from f.next f.value ∷ items_from 0 (drop f.next text)
   unfolding found_of
   items_found h n f e l =
       let b = get_or text from 0 in
@@ -88,7 +89,7 @@ module _ (text : List ℕ) (at from : ℕ) (place : from ≡ at + length (front 
       ∙ (let z : items_from 0 (b ∷ drop (suc from) text) ≡ items_from 0 (b ∷ s) = ap (λ (j : ℕ). items_from 0 (b ∷ drop j text)) (let y : suc from ≡ from + 1 = omega arith in y) in z)
       ∙ items_item b s (ink_there h) (ne_eqb b 59 n)
       ∙ ap (λ (i : Items.Item). i ∷ items_from 0 (drop (item_at b s).width s)) (ap (λ (x : Items.Found). x.item) (sym e))
-      ∙ ap (λ (xs : List ℕ). item_of text from f.next f.item ∷ items_from 0 xs)
+      ∙ ap (λ (xs : List ℕ). item_of text from f.next f.value ∷ items_from 0 xs)
       (drop-drop (item_at b s).width (from + 1) text
       ∙ ap (λ (j : ℕ). drop j text) (let z : from + 1 + (item_at b s).width ≡ f.next = omega (arith, w, l) in z))
 

@@ -15,9 +15,9 @@ use Rattle.part.specs.declared.state.State.{State}
 use Rattle.items.specs.Items.{items_of}
 use Rattle.part.specs.Body.{Book, Progress, run, inside, body_read}
 use Rattle.columns.specs.Columns.{notes_in}
-use Rattle.part.specs.Columns.{loops_in, progress_of, Ready, Becomes}
+use Rattle.part.specs.Columns.{loops_in, progress_of, Ready, Becomes, refused_at}
 use Rattle.part.specs.Reading.{is_ready, part_in, state_after, Held}
-use Rattle.part.proofs.Columns.{refused_at, outcome_going, notes_count, loops_count}
+use Rattle.part.proofs.Columns.{outcome_going, notes_count, loops_count}
 use Rattle.part.proofs.Running.{outcome_refused}
 
 -- ---- which states are ready

@@ -1,6 +1,6 @@
 -- What a body does to its part. Each order of refusals of document 01 is a `do` block; "In a body 23 precedes all else", and "inside a macro the
 -- macro's own line" is the one that is reported. Assumes nothing.
-use Rattle.std.specs.Prelude.{Bool, true, false, ℕ, zero, suc, ◌+◌, leb, ltb, get_or, Float}
+use Rattle.std.specs.Prelude.{Bool, ℕ, zero, suc, ◌+◌, leb, ltb, get_or, Float}
 use mathlib.Core.List.{List, [], ◌∷◌, ◌++◌}
 use Rattle.std.proofs.Math.Option.{Option, none, some}
 use Rattle.std.proofs.Math.ListN.{length}

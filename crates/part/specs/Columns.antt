@@ -48,6 +48,11 @@ pub record Deep (s : State) (ls : List ℕ) : Type 0 where
   pub few : s.depth ≤ loops_most
   pub places : length ls ≡ 2 * loops_most
 
+-- a state with a refusal
+abbrev pub refused_at : State → ℕ → ℕ → State
+refused_at s n l =
+    record { env = s.env; count = s.count; others = s.others; depth = s.depth; steps = s.steps; refusal = n; line = l }
+
 -- a state that goes on
 pub record Ready (s : State) (fs : List Float) (is ls : List ℕ) : Type 0 where
   pub goes : s.refusal ≡ 0

@@ -7,7 +7,7 @@ use Rattle.environment.specs.Bounds.{octaves}
 use Rattle.part.specs.declared.state.State.{State}
 use Rattle.part.specs.Body.{Book, Progress, body_read}
 use Rattle.columns.specs.Columns.{notes_in}
-use Rattle.part.specs.Columns.{loops_in, progress_of}
+use Rattle.part.specs.Columns.{loops_in, progress_of, refused_at}
 
 -- whether a state is that of a part within the capacities, and the columns have the room for all of it
 unfoldable pub is_ready : State → ℕ → ℕ → ℕ → ℕ → Bool
@@ -38,8 +38,7 @@ state_after s (going p) =
       refusal = 0;
       line = 0;
     }
-state_after s (refused n l) =
-    record { env = s.env; count = s.count; others = s.others; depth = s.depth; steps = s.steps; refusal = n; line = l }
+state_after s (refused n l) = refused_at s n l
 
 -- the columns hold the notes and the open loops; after a refusal they say nothing
 unfoldable pub Held : Outcome Progress → List Float → List ℕ → List ℕ → Type 0

@@ -1,5 +1,6 @@
-// The reader of bodies: "A body calls a macro, a macro holds a body." `body` walks over the items of a text, `item` counts the step and does what the
-// item says, and `call` reads a macro's body where the macro is called, with one nested call less to go.
+// The reader of bodies: "A body calls a macro, a macro holds a body." `body` walks over the items of a text, `item`
+// counts the step and does what the item says, and `call` reads a macro's body where the macro is called, with one
+// nested call less to go.
 
 ghost use Rattle.std.specs.Prelude.{◌≡◌, false, List, ◌≤◌, ◌<◌, length};
 ghost use Rattle.lines.specs.Names.{names_in};
@@ -14,13 +15,15 @@ ghost use Rattle.items.specs.Written.{item_of, is_call};
 use crate::command::{change, instrument};
 use crate::note::noted;
 use crate::open_loops::{closed, cut_here, opened};
-use crate::state::State;
-use items::item::{Found, Item, is_call, item_at};
-use lines::names::{least, place_named};
+use crate::state::{STEPS, State};
+use items::item::{Item, is_call, item_at};
+use lines::names::place_named;
 use settings::command::{
-    Changed, amplitude_command, key_command, octave_command, tempo_command, value_command,
+    amplitude_command, key_command, octave_command, tempo_command, value_command,
 };
+use sheet::refusal::Refusal;
 use text::blanks::blanks_end;
+use text::parsed::Parsed;
 
 // What an item does that is no macro call.
 fn done(
@@ -39,21 +42,19 @@ fn done(
     item: Item,
 ) -> State
     requires ready { Ready st floats.old instruments.old loops.old }
-    requires releases_len_bound { (length releases.now ≤ instruments_most) × (is_call item ≡ false) }
-    requires at_le_next { (at ≤ next) × (next ≤ length text.now) }
-    ensures { (ms : List Macro) (inner : Macro → Progress → Outcome Progress) → Becomes (does (book_of rate ms (names_in source.now names.now) releases.now) line inner (item_of text.now at next item) (progress_of st floats.old instruments.old loops.old)) result floats.new instruments.new loops.new }
+    requires few_releases { (length releases.now ≤ instruments_most) × (is_call item ≡ false) }
+    requires places { (at ≤ next) × (next ≤ length text.now) }
+    ensures { (ms : List Macro) (inner : Macro → Progress → Outcome Progress) →
+        let book = book_of rate ms (names_in source.now names.now) releases.now in
+        let before = progress_of st floats.old instruments.old loops.old in
+        let found = item_of text.now at next item in
+        Becomes (does book line inner found before) result floats.new instruments.new loops.new }
 {
     let env = st.env;
     match item {
         Item::Note(n) => noted(releases, floats, instruments, st, line, rate, n),
-        Item::Up => {
-            let higher = Changed::To(env.octave_up());
-            change(st, line, higher)
-        }
-        Item::Down => {
-            let lower = Changed::To(env.octave_down());
-            change(st, line, lower)
-        }
+        Item::Up => change(st, line, Ok(env.octave_up())),
+        Item::Down => change(st, line, Ok(env.octave_down())),
         Item::Opening => opened(loops, st, line),
         Item::Cut => cut_here(loops, st, line),
         Item::Closing(n) => closed(floats, instruments, loops, st, line, n),
@@ -62,21 +63,13 @@ fn done(
         Item::Tempo(n) => change(st, line, tempo_command(env, n)),
         Item::Amplitude(d) => change(st, line, amplitude_command(env, d)),
         Item::Key(k) => change(st, line, key_command(env, k)),
-        Item::Instrument => {
-            let name = &text[at..next];
-            instrument(source, names, st, line, name)
-        }
+        Item::Instrument => instrument(source, names, st, line, &text[at..next]),
         Item::Call => st,
-        Item::Unknown => {
-            let mut s = st;
-            s.refusal = 14;
-            s.line = line;
-            s
-        }
+        Item::Unknown => st.refused(Refusal::UnknownCharacter, line),
     }
 }
 
-// One item: its step is counted, and 23 precedes all else.
+// One item: its step is counted, and that there are too many precedes all else.
 #[cycle(body_call_item)]
 fn item(
     source: &[u8],
@@ -92,24 +85,27 @@ fn item(
     line: usize,
     rate: u32,
     at: usize,
-    found: Found,
+    found: Parsed<Item>,
     nest: usize,
 ) -> State
     requires ready { Ready st floats.old instruments.old loops.old }
-    requires releases_len_bound { length releases.now ≤ instruments_most }
-    requires at_le_next { (at ≤ found.next) × (found.next ≤ length text.now) }
-    ensures { Becomes (stepped (book_in rate source.now macros.now bodies.now names.now releases.now) line (inside (book_in rate source.now macros.now bodies.now names.now releases.now) nest line) (item_of text.now at found.next found.item) (progress_of st floats.old instruments.old loops.old)) result floats.new instruments.new loops.new }
+    requires few_releases { length releases.now ≤ instruments_most }
+    requires places { (at ≤ found.next) × (found.next ≤ length text.now) }
+    ensures { let book = book_in rate source.now macros.now bodies.now names.now releases.now in
+        let before = progress_of st floats.old instruments.old loops.old in
+        let this = item_of text.now at found.next found.value in
+        Becomes (stepped book line (inside book nest line) this before)
+        result floats.new instruments.new loops.new }
 {
-    let mut s = st;
-    let steps = s.steps;
-    if steps >= 100000 {
-        s.refusal = 23;
-        s.line = line;
-        return s;
+    let steps = st.steps;
+    if steps >= STEPS {
+        return st.refused(Refusal::TooManySteps, line);
     }
-    s.steps = steps + 1;
-    let kind = found.item;
-    let next = found.next;
+    let s = State {
+        steps: steps + 1,
+        ..st
+    };
+    let Parsed { value: kind, next } = found;
     if is_call(kind) {
         let name = &text[at..next];
         return call(
@@ -145,7 +141,8 @@ fn item(
     )
 }
 
-// A macro call: 13 where no macro has the name, 22 where no nested call is left. The macro's body is a part of the source.
+// A macro call: refused where no macro has the name, or where no nested call is left. The macro's body is a part of the
+// source.
 #[cycle(body_call_item)]
 fn call(
     source: &[u8],
@@ -163,32 +160,25 @@ fn call(
     nest: usize,
 ) -> State
     requires ready { Ready st floats.old instruments.old loops.old }
-    requires releases_len_bound { length releases.now ≤ instruments_most }
-    ensures { Becomes (called (book_in rate source.now macros.now bodies.now names.now releases.now) line (inside (book_in rate source.now macros.now bodies.now names.now releases.now) nest line) name.now (progress_of st floats.old instruments.old loops.old)) result floats.new instruments.new loops.new }
+    requires few_releases { length releases.now ≤ instruments_most }
+    ensures { let book = book_in rate source.now macros.now bodies.now names.now releases.now in
+        let before = progress_of st floats.old instruments.old loops.old in
+        Becomes (called book line (inside book nest line) name.now before)
+        result floats.new instruments.new loops.new }
 {
-    let mut s = st;
     let place = place_named(source, macros, name);
     let at = 2 * place;
-    if macros.len() - at < 2 {
-        s.refusal = 13;
-        s.line = line;
-        return s;
-    }
-    if bodies.len() < at + 2 {
-        s.refusal = 13;
-        s.line = line;
-        return s;
+    if macros.len() - at < 2 || bodies.len() < at + 2 {
+        return st.refused(Refusal::UnknownMacro, line);
     }
     if nest == 0 {
-        s.refusal = 22;
-        s.line = line;
-        return s;
+        return st.refused(Refusal::NestedTooDeep, line);
     }
     let begin = macros[at + 1];
     let end = bodies[at];
     let own = bodies[at + 1];
-    let to = least(end, source.len());
-    let from = least(begin, to);
+    let to = end.min(source.len());
+    let from = begin.min(to);
     let text = &source[from..to];
     body(
         source,
@@ -200,7 +190,7 @@ fn call(
         floats,
         instruments,
         loops,
-        s,
+        st,
         own,
         rate,
         nest - 1,
@@ -225,8 +215,11 @@ pub(crate) fn body(
     nest: usize,
 ) -> State
     requires ready { Ready st floats.old instruments.old loops.old }
-    requires releases_len_bound { length releases.now ≤ instruments_most }
-    ensures { Becomes (run (book_in rate source.now macros.now bodies.now names.now releases.now) line (inside (book_in rate source.now macros.now bodies.now names.now releases.now) nest line) (items_of text.now) (progress_of st floats.old instruments.old loops.old)) result floats.new instruments.new loops.new }
+    requires few_releases { length releases.now ≤ instruments_most }
+    ensures { let book = book_in rate source.now macros.now bodies.now names.now releases.now in
+        let before = progress_of st floats.old instruments.old loops.old in
+        Becomes (run book line (inside book nest line) (items_of text.now) before)
+        result floats.new instruments.new loops.new }
 {
     let mut s = st;
     let mut at = 0;
@@ -235,7 +228,7 @@ pub(crate) fn body(
         if from >= text.len() {
             return s;
         }
-        if text[from] == 59 {
+        if text[from] == b';' {
             return s;
         }
         let found = item_at(text, from);
@@ -257,8 +250,7 @@ pub(crate) fn body(
             found,
             nest,
         );
-        let refusal = s.refusal;
-        if refusal != 0 {
+        if s.refusal != 0 {
             return s;
         }
         at = next;

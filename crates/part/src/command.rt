@@ -10,29 +10,24 @@ ghost use Rattle.part.specs.Body.{Progress, does, changing};
 ghost use Rattle.part.specs.Columns.{Ready, Becomes, progress_of, book_of};
 
 use crate::state::State;
+use environment::environment::Environment;
 use lines::names::place_named;
-use settings::command::Changed;
+use sheet::refusal::Refusal;
 
 // The environment that a command came to, in place of the part's, or its refusal.
-pub(crate) fn change(st: State, line: usize, changed: Changed) -> State
+pub(crate) fn change(st: State, line: usize, changed: Result<Environment, Refusal>) -> State
     requires { Low (change_outcome line changed) }
-    ensures { (fs : List Float) (is ls : List ℕ) → Ready st fs is ls → Becomes (changing (change_outcome line changed) (progress_of st fs is ls)) result fs is ls }
+    ensures { (fs : List Float) (is ls : List ℕ) → Ready st fs is ls
+        → Becomes (changing (change_outcome line changed) (progress_of st fs is ls)) result fs is ls }
 {
-    let mut s = st;
     match changed {
-        Changed::To(env) => {
-            s.env = env;
-            return s;
-        }
-        Changed::Refused(number) => {
-            s.refusal = number;
-            s.line = line;
-            return s;
-        }
+        Ok(env) => State { env, ..st },
+        Err(why) => st.refused(why, line),
     }
 }
 
-// `@` and a name: 12 where no instrument has it. The default one has no name, so the first name is that of instrument 1.
+// `@` and a name: refused where no instrument has it. The default one has no name, so the first name is that of
+// instrument 1.
 pub(crate) fn instrument(
     source: &[u8],
     names: &[usize],
@@ -40,18 +35,18 @@ pub(crate) fn instrument(
     line: usize,
     name: &[u8],
 ) -> State
-    ensures { (rate : ℕ) (ms : List Macro) (rs : List Float) (inner : Macro → Progress → Outcome Progress) (fs : List Float) (is ls : List ℕ) → Ready st fs is ls → Becomes (does (book_of rate ms (names_in source.now names.now) rs) line inner (Items.instrument name.now) (progress_of st fs is ls)) result fs is ls }
+    ensures { (rate : ℕ) (ms : List Macro) (rs : List Float) (inner : Macro → Progress → Outcome Progress)
+        (fs : List Float) (is ls : List ℕ) → Ready st fs is ls →
+        let book = book_of rate ms (names_in source.now names.now) rs in
+        Becomes (does book line inner (Items.instrument name.now) (progress_of st fs is ls)) result fs is ls }
 {
-    let mut s = st;
     let place = place_named(source, names, name);
-    let at = 2 * place;
-    if names.len() - at < 2 {
-        s.refusal = 12;
-        s.line = line;
-        return s;
+    if names.len() - 2 * place < 2 {
+        return st.refused(Refusal::UnknownInstrument, line);
     }
-    let mut env = s.env;
-    env.instrument = place + 1;
-    s.env = env;
-    s
+    let env = Environment {
+        instrument: place + 1,
+        ..st.env
+    };
+    State { env, ..st }
 }

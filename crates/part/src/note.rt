@@ -10,10 +10,11 @@ ghost use Rattle.tables.specs.Named.{Macro};
 ghost use Rattle.part.specs.Body.{noted as notedIs};
 ghost use Rattle.part.specs.Columns.{Room, Deep, Becomes, progress_of, book_of, laid};
 
-use crate::state::State;
+use crate::state::{NOTES, State};
 use environment::environment::Environment;
 use items::item::WrittenNote;
 use notes::note::{amplitude, is_counted, semitone, value};
+use sheet::refusal::Refusal;
 use tone::power::frequency;
 use tone::time::duration;
 
@@ -29,25 +30,25 @@ fn push(
     i: u8,
 ) -> State
     requires { (st.refusal ≡ 0) × Room st floats.old instruments.old }
-    ensures { (ls : List ℕ) → Deep st ls → Becomes (laid line (record { amplitude = a; frequency = f; duration = d; instrument = i }) (progress_of st floats.old instruments.old ls)) result floats.new instruments.new ls }
+    ensures { (ls : List ℕ) → Deep st ls → Becomes
+        (laid line (record { amplitude = a; frequency = f; duration = d; instrument = i })
+        (progress_of st floats.old instruments.old ls))
+        result floats.new instruments.new ls }
 {
-    let mut s = st;
-    let n = s.count;
-    if s.others + n >= 2048 {
-        s.refusal = 21;
-        s.line = line;
-        return s;
+    let n = st.count;
+    if st.others + n >= NOTES {
+        return st.refused(Refusal::Full, line);
     }
     let at = 3 * n;
     floats[at] = a;
     floats[at + 1] = f;
     floats[at + 2] = d;
     instruments[n] = i;
-    s.count = n + 1;
-    s
+    State { count: n + 1, ..st }
 }
 
-// A note as it is written, at the end of its part: 8 where its value is out of range, 24 where it is too long, 21 where there is no room.
+// A note as it is written, at the end of its part: refused where its value is out of range, where it is too long, and
+// where there is no room.
 pub(crate) fn noted(
     releases: &[f32],
     floats: &mut [f32],
@@ -58,38 +59,24 @@ pub(crate) fn noted(
     note: WrittenNote,
 ) -> State
     requires { (st.refusal ≡ 0) × ((length releases.now ≤ instruments_most) × Room st floats.old instruments.old) }
-    ensures { (ms : List Macro) (ns : List (List ℕ)) (ls : List ℕ) → Deep st ls → Becomes (notedIs (book_of rate ms ns releases.now) line note.letter (accidental_found note.accidental) (value_of st.env (digit_run note.value)) note.dotted (progress_of st floats.old instruments.old ls)) result floats.new instruments.new ls }
+    ensures { (ms : List Macro) (ns : List (List ℕ)) (ls : List ℕ) → Deep st ls →
+        let book = book_of rate ms ns releases.now in
+        let own = value_of st.env (digit_run note.value) in
+        let before = progress_of st floats.old instruments.old ls in
+        Becomes (notedIs book line note.letter (accidental_found note.accidental) own note.dotted before)
+        result floats.new instruments.new ls }
 {
-    let mut s = st;
-    let env = s.env;
-    let own = note.value;
-    let v = value(env, own);
-    if v < Environment::MIN_VALUE as u64 {
-        s.refusal = 8;
-        s.line = line;
-        return s;
-    }
-    if v > Environment::MAX_VALUE as u64 {
-        s.refusal = 8;
-        s.line = line;
-        return s;
+    let env = st.env;
+    let v = value(env, note.value);
+    if v < u64::from(Environment::MIN_VALUE) || v > u64::from(Environment::MAX_VALUE) {
+        return st.refused(Refusal::OutOfRange, line);
     }
     let d = duration(env.tempo, env.denominator, v as u32, note.dotted);
     let i = env.instrument;
-    if i >= releases.len() {
-        s.refusal = 24;
-        s.line = line;
-        return s;
+    if i >= releases.len() || !is_counted(d + releases[i], rate) {
+        return st.refused(Refusal::NoteTooLong, line);
     }
-    let release = releases[i];
-    if !is_counted(d + release, rate) {
-        s.refusal = 24;
-        s.line = line;
-        return s;
-    }
-    let letter = note.letter;
-    let mark = note.accidental;
-    let f = frequency(semitone(env, letter, mark));
-    let a = amplitude(env, letter);
-    push(floats, instruments, s, line, a, f, d, i as u8)
+    let f = frequency(semitone(env, note.letter, note.accidental));
+    let a = amplitude(env, note.letter);
+    push(floats, instruments, st, line, a, f, d, i as u8)
 }

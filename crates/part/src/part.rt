@@ -7,59 +7,49 @@ ghost use Rattle.part.specs.Columns.{Ready, Becomes, book_in};
 ghost use Rattle.part.specs.Reading.{is_ready, part_in, state_after, Held};
 
 use crate::body::body;
-use crate::state::State;
+use crate::state::{NOTES, OPEN_LOOPS, State};
 use environment::environment::Environment;
+use sheet::refusal::Refusal;
+
+// How many instruments a sheet may have, and how deep macro calls may nest.
+const INSTRUMENTS: usize = 32;
+
+const NESTED_CALLS: usize = 8;
 
 // Whether a state is that of a part within the capacities, and columns of these lengths have the room for all of it.
+#[tactic(auto, unfolding(crate::specs::Reading::is_ready))]
 fn is_ready(st: State, floats: usize, instruments: usize, loops: usize, releases: usize) -> bool
     ensures { result ≡ is_ready st floats instruments loops releases }
 {
-    let env = st.env;
-    if st.refusal != 0 {
-        return false;
-    }
-    if env.octave > Environment::MAX_OCTAVE {
-        return false;
-    }
-    if st.others > 2048 {
-        return false;
-    }
-    if st.count > 2048 - st.others {
-        return false;
-    }
-    if st.depth > 8 {
-        return false;
-    }
-    if floats != 6144 {
-        return false;
-    }
-    if instruments != 2048 {
-        return false;
-    }
-    if loops != 16 {
-        return false;
-    }
-    releases <= 32
+    st.refusal == 0
+        && st.env.octave <= Environment::MAX_OCTAVE
+        && st.others <= NOTES
+        && st.count <= NOTES - st.others
+        && st.depth <= OPEN_LOOPS
+        && floats == 3 * NOTES
+        && instruments == NOTES
+        && loops == 2 * OPEN_LOOPS
+        && releases <= INSTRUMENTS
 }
 
 // What a reading has come to: after a refusal the state is the one from before, with the refusal and its line.
 fn settled(st: State, r: State) -> State
-    ensures { (o : Outcome Progress) (fs : List Float) (is ls : List ℕ) → Becomes o r fs is ls → (result ≡ state_after st o) × (Held o fs is ls × (result.refusal ≡ 0 → Ready result fs is ls)) }
+    ensures { (o : Outcome Progress) (fs : List Float) (is ls : List ℕ) → Becomes o r fs is ls
+        → (result ≡ state_after st o) × (Held o fs is ls × (result.refusal ≡ 0 → Ready result fs is ls)) }
 {
-    let refusal = r.refusal;
-    if refusal != 0 {
-        let mut s = st;
-        s.refusal = refusal;
-        s.line = r.line;
-        return s;
+    if r.refusal != 0 {
+        return State {
+            refusal: r.refusal,
+            line: r.line,
+            ..st
+        };
     }
-    let mut s = r;
-    s.line = 0;
-    s
+    State { line: 0, ..r }
 }
 
-// The body of a part's line, read on from a state and its columns: the state afterwards. The tables are those of the macros' names, their bodies and the
-// instruments' names, as places in the source. Where the state is none of a part, 21, and the columns stay as they are.
+// The body of a part's line, read on from a state and its columns: the state afterwards. The tables are those of the
+// macros' names, their bodies and the instruments' names, as places in the source. Where the state is none of a part,
+// 21, and the columns stay as they are.
 pub fn read_part(
     source: &[u8],
     macros: &[usize],
@@ -74,9 +64,14 @@ pub fn read_part(
     line: usize,
     rate: u32,
 ) -> State
-    ensures state { result ≡ state_after st (part_in (book_in rate source.now macros.now bodies.now names.now releases.now) line text.now st floats.old instruments.old loops.old) }
-    ensures columns { Held (part_in (book_in rate source.now macros.now bodies.now names.now releases.now) line text.now st floats.old instruments.old loops.old) floats.new instruments.new loops.new }
-    ensures ready { is_ready st (length floats.old) (length instruments.old) (length loops.old) (length releases.now) ≡ true → result.refusal ≡ 0 → Ready result floats.new instruments.new loops.new }
+    ensures state { let book = book_in rate source.now macros.now bodies.now names.now releases.now in
+        result ≡ state_after st (part_in book line text.now st floats.old instruments.old loops.old) }
+    ensures columns { let book = book_in rate source.now macros.now bodies.now names.now releases.now in
+        Held (part_in book line text.now st floats.old instruments.old loops.old)
+        floats.new instruments.new loops.new }
+    ensures ready { is_ready st (length floats.old) (length instruments.old) (length loops.old)
+        (length releases.now) ≡ true
+        → result.refusal ≡ 0 → Ready result floats.new instruments.new loops.new }
     ensures kept { is_ready st (length floats.old) (length instruments.old) (length loops.old)
         (length releases.now) ≡ false
         → (floats.new ≡ floats.old)
@@ -89,10 +84,7 @@ pub fn read_part(
         loops.len(),
         releases.len(),
     ) {
-        let mut s = st;
-        s.refusal = 21;
-        s.line = line;
-        return s;
+        return st.refused(Refusal::Full, line);
     }
     let r = body(
         source,
@@ -107,7 +99,7 @@ pub fn read_part(
         st,
         line,
         rate,
-        8,
+        NESTED_CALLS,
     );
     settled(st, r)
 }

@@ -1,6 +1,18 @@
 // How far the reading of a part is, with the notes and the open loops in columns beside it.
 
+ghost use Rattle.std.specs.Prelude.{◌≡◌};
+ghost use Rattle.sheet.specs.Numbers.{number_of};
+ghost use Rattle.part.specs.Columns.{refused_at};
+
 use environment::environment::Environment;
+use sheet::refusal::Refusal;
+
+// How many notes all parts may have, how many loops of a part may be open, and how many steps a reading may take.
+pub(crate) const NOTES: usize = 2048;
+
+pub(crate) const OPEN_LOOPS: usize = 8;
+
+pub(crate) const STEPS: usize = 100000;
 
 #[derive(Clone, Copy)]
 pub struct State {
@@ -14,4 +26,17 @@ pub struct State {
     // A refusal's number, 0 for none, and its line.
     pub refusal: u32,
     pub line: usize,
+}
+
+impl State {
+    // The same part with a refusal and its line.
+    pub(crate) fn refused(self, why: Refusal, line: usize) -> State
+        ensures { result ≡ refused_at self (number_of why) line }
+    {
+        State {
+            refusal: why.number(),
+            line,
+            ..self
+        }
+    }
 }

@@ -1,18 +1,10 @@
 -- The cycle of the reader of bodies: `body` keeps a `Running` walk, `item` counts a step, and `call` has one nested call less to go; three times the nesting
 -- left and a place in the cycle fall. Assumes nothing.
-use mathlib.Core.Path.{sym, ◌∙◌}
-use mathlib.Core.List.{[]}
 use lib.ListN.{length}
-use Rattle.lines.proofs.Places.{between_cut, names_halved}
-use Rattle.sheet.specs.Refusals.{going}
-use Rattle.items.proofs.Starts.{item_there}
 use Rattle.part.specs.Body.{inside}
 use Rattle.part.specs.Columns.{book_in}
-use Rattle.part.proofs.Doing.{written_call, done_as, does_call}
-use Rattle.tables.proofs.Named.{macro_known, macro_unknown, macro_bodiless}
-use Rattle.part.proofs.Running.{Running, run_start, run_end, run_refused, run_more, items_none, items_stop, items_found, step_ready, step_none, step_some, call_unknown, call_deep, call_known}
-use native.Mathlib.Omega.{arith}
-use Prim.Native.Nat.{ℕ, ◌<◌, ◌+◌, ◌*◌, ◌-◌}
+use Rattle.part.proofs.Running.{Running}
+use Prim.Native.Nat.{◌+◌, ◌*◌, ◌-◌}
 use Rattle.part.proofs.body.+body_call_item.Given as goal
 
 abbrev pub decreases-body : goal.decreases-body

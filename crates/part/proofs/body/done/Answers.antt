@@ -1,18 +1,17 @@
 -- `done` is what its callee does, for the item that each arm knows. Assumes nothing.
 use mathlib.Core.Path.{sym, ap, ◌∙◌}
 use Rattle.sheet.proofs.Basics.{false_true}
-use Rattle.settings.specs.declared.command.Changed.TheVariants.{To}
+use Rattle.std.specs.Prelude.{Ok}
 use Rattle.settings.proofs.Changing.{octave_low, value_low, tempo_low, amplitude_low, key_low}
 use Rattle.items.specs.Written.{is_call}
 use Rattle.part.proofs.Doing.{written_note, written_up, written_down, written_opening, written_cut, written_closing, written_octave, written_value, written_tempo, written_amplitude, written_key, written_instrument, written_unknown, low_up, low_down, low_as, done_as, does_note, does_opening, does_cut, does_closing, does_up, does_down, does_octave, does_value, does_tempo, does_amplitude, does_key, does_unknown}
-use borrow.Author.Rules.{rules}
 use Rattle.part.proofs.body.done.Goals as goal
 
 pub change-requires : goal.change-requires
-change-requires c = low_up _ _ _ c.octave_up.ensures
+change-requires c = low_up c.args.line _ _ c.octave_up.ensures
 
 pub change-requires-in-Down : goal.change-requires-in-Down
-change-requires-in-Down c = low_down _ _ _ c.requires.ready.room.octave c.octave_down.ensures
+change-requires-in-Down c = low_down c.args.line _ _ c.requires.ready.room.octave c.octave_down.ensures
 
 pub change-requires-in-Octave : goal.change-requires-in-Octave
 change-requires-in-Octave c = low_as _ _ (c.octave_command.ensures _) (octave_low _ _ _)
@@ -33,10 +32,10 @@ pub returns-in-Note : goal.returns-in-Note
 returns-in-Note c ms inner = done_as _ _ _ _ _ _ _ _ _ _ _ _ _ (written_note _ _ _ _ _ c.in-Note.is) (does_note _ _ _ _ _ _ _ _ _ _ _ _ _ _ _ (c.noted.ensures ms _ _ c.requires.ready.deep))
 
 pub returns-in-Up : goal.returns-in-Up
-returns-in-Up c ms inner = done_as _ _ _ _ _ _ _ _ _ _ _ _ _ (written_up _ _ _ _ c.in-Up.is) (does_up _ _ _ _ _ _ _ _ _ _ _ _ (c.change.ensures _ _ _ c.requires.ready) (ap To c.octave_up.ensures))
+returns-in-Up c ms inner = done_as _ _ _ _ _ _ _ _ _ _ _ _ _ (written_up _ _ _ _ c.in-Up.is) (does_up _ _ _ _ _ _ _ _ _ _ _ _ (c.change.ensures _ _ _ c.requires.ready) (ap Ok c.octave_up.ensures))
 
 pub returns-in-Down : goal.returns-in-Down
-returns-in-Down c ms inner = done_as _ _ _ _ _ _ _ _ _ _ _ _ _ (written_down _ _ _ _ c.in-Down.is) (does_down _ _ _ _ _ _ _ _ _ _ _ _ (c.change-in-Down.ensures _ _ _ c.requires.ready) (ap To c.octave_down.ensures))
+returns-in-Down c ms inner = done_as _ _ _ _ _ _ _ _ _ _ _ _ _ (written_down _ _ _ _ c.in-Down.is) (does_down _ _ _ _ _ _ _ _ _ _ _ _ (c.change-in-Down.ensures _ _ _ c.requires.ready) (ap Ok c.octave_down.ensures))
 
 pub returns-in-Opening : goal.returns-in-Opening
 returns-in-Opening c ms inner = done_as _ _ _ _ _ _ _ _ _ _ _ _ _ (written_opening _ _ _ _ c.in-Opening.is) (does_opening _ _ _ _ _ _ _ _ _ _ _ (c.opened.ensures _ _ _ c.requires.ready.room))
@@ -67,7 +66,7 @@ returns-in-Instrument c ms inner = done_as _ _ _ _ _ _ _ _ _ _ _ _ _ (written_in
 
 pub returns-in-Call : goal.returns-in-Call
 unfolding is_call
-returns-in-Call c ms inner = false_true (sym c.requires.releases_len_bound.1 ∙ ap is_call c.in-Call.is)
+returns-in-Call c ms inner = false_true (sym c.requires.few_releases.1 ∙ ap is_call c.in-Call.is)
 
 pub returns-in-Unknown : goal.returns-in-Unknown
-returns-in-Unknown c ms inner = done_as _ _ _ _ _ _ _ _ _ _ _ _ _ (written_unknown _ _ _ _ c.in-Unknown.is) (does_unknown _ _ _ _ _ _ _ c.requires.ready)
+returns-in-Unknown c ms inner = done_as _ _ _ _ _ _ _ _ _ _ _ _ _ (written_unknown _ _ _ _ c.in-Unknown.is) (rw c.refused.ensures (does_unknown _ _ _ _ _ _ _ c.requires.ready))

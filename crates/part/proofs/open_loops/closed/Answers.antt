@@ -3,17 +3,17 @@
 use mathlib.Core.Path.{refl, sym, ◌∙◌}
 use native.Mathlib.Omega.{arith}
 use Rattle.part.proofs.Closing.{close_outside, close_uncounted, close_past, close_full, close_room, room_fits}
-use borrow.Author.Rules.{rules}
 use Rattle.part.proofs.open_loops.closed.Goals as goal
 
 pub returns-then-d-eq0 : goal.returns-then-d-eq0
 returns-then-d-eq0 c book =
-    close_outside c.args.st _ _ _ c.requires.1.0 c.requires.1.1 book _ _ c.if-d-eq0.true
+    rw c.refused.ensures (close_outside c.args.st _ _ _ c.requires.1.0 c.requires.1.1 book _ _ c.if-d-eq0.true)
 
 pub returns-then-passes-eq0 : goal.returns-then-passes-eq0
 returns-then-passes-eq0 c book =
-    close_uncounted c.args.st _ _ _ c.requires.1.0 c.requires.1.1 book _ _ (omega (arith, c.if-d-eq0.false))
-    (sym c.times_of-passes.ensures ∙ c.if-passes-eq0.true)
+    rw c.refused-then-passes-eq0.ensures
+    (close_uncounted c.args.st _ _ _ c.requires.1.0 c.requires.1.1 book _ _ (omega (arith, c.if-d-eq0.false))
+    (sym c.times_of-passes.ensures ∙ c.if-passes-eq0.true))
 
 pub returns-then-start-n : goal.returns-then-start-n
 returns-then-start-n c book =
@@ -22,10 +22,11 @@ returns-then-start-n c book =
 
 pub returns-then-further-room : goal.returns-then-further-room
 returns-then-further-room c book =
-    close_full c.args.st _ _ _ c.requires.1.0 c.requires.1.1 book _ _ (omega (arith, c.if-d-eq0.false)) _ _
+    rw c.refused-then-further-room.ensures
+    (close_full c.args.st _ _ _ c.requires.1.0 c.requires.1.1 book _ _ (omega (arith, c.if-d-eq0.false)) _ _
     c.times_of-passes.ensures (omega (arith, c.if-passes-eq0.false)) c.if-start-n.false
     c.last_count-last.ensures.0 c.last_count-last.ensures.1
-    c.if-further-room.true
+    c.if-further-room.true)
 
 pub overflow_mul-end : goal.overflow_mul-end
 overflow_mul-end c =
@@ -60,4 +61,4 @@ returns c book =
     close_room c.args.st _ _ _ c.requires.1.0 c.requires.1.1 book _ _ (omega (arith, c.if-d-eq0.false)) _ _
     c.times_of-passes.ensures (omega (arith, c.if-passes-eq0.false)) c.if-start-n.false
     c.last_count-last.ensures.0 c.last_count-last.ensures.1
-    c.if-further-room.false c.requires.0 _ refl _ _ c.repeat_floats.ensures c.repeat_bytes.ensures
+    c.if-further-room.false c.requires.0 _ refl _ _ c.repeat.ensures c.repeat-2.ensures
