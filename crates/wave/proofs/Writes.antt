@@ -2,7 +2,7 @@
 -- The loops and the writers cite these laws and look into no list. Assumes nothing.
 use mathlib.Core.Path.{◌≡◌, refl, sym, ap, ap₂, ◌∙◌}
 use mathlib.Core.List.{List, [], ◌∷◌, ◌++◌, append_assoc, append-nil}
-use Prim.Native.Nat.{ℕ, ◌+◌, ◌-◌, ◌*◌, ◌/◌, ◌%◌, ◌≤◌, ◌<◌, min}
+use Prim.Native.Nat.{ℕ, ◌+◌, ◌-◌, ◌*◌, ◌/◌, ◌≤◌, ◌<◌, min}
 use native.Mathlib.Numerals.{add-one}
 use native.Mathlib.Nat.{le_of_eq, add-zero, zero-add, add_assoc}
 use native.Mathlib.Omega.{arith}
@@ -12,7 +12,7 @@ use lib.Seq.{sets, sets-eq, take-suc, take_all, take-length, length-take-le, tak
 use lib.Ieee.{Float}
 use Rattle.form.specs.declared.size.Size.{Size}
 use Rattle.form.specs.Form.{header}
-use Rattle.form.specs.Sample.{sample16, word, sample_bytes, bytes_of}
+use Rattle.form.specs.Sample.{sample_bytes, bytes_of}
 use Rattle.wave.specs.File.{put, count_in, samples_in, header_in}
 use Rattle.form.proofs.Published.{header_length, bytes_length}
 
@@ -99,28 +99,17 @@ bytes_more xs i d h =
     ∙ ap bytes_of (take-suc xs i d h)
     ∙ bytes_append (take i xs) (get_or xs i d ∷ [])
 
--- a stored 16-bit number is its lower and its upper byte
-two_bytes : (v : ℕ) (x : Float) → v < 65536 → v ≡ word (sample16 x) → v % 256 ∷ v / 256 ∷ [] ≡ sample_bytes x
-unfolding sample_bytes
-two_bytes v x h e =
-    let u : v / 256 ≡ v / 256 % 256 = omega arith in
-    rw (← e) (ap (λ (k : ℕ). v % 256 ∷ k ∷ []) u)
-
 -- a turn of the loop that writes samples: its two stores take the first i samples to the first i + 1
-pub one_more : (b : List ℕ) (xs : List Float) (i v : ℕ) (d : Float) → i < length xs → 2 * i + 2 ≤ length b → v < 65536 → v ≡ word (sample16 (get_or xs i d))
-    → set (set (put b 0 (bytes_of (take i xs))) (2 * i) (v % 256)) (2 * i + 1) (v / 256) ≡ put b 0 (bytes_of (take (i + 1) xs))
-one_more b xs i v d h g small e =
+pub one_more : (b : List ℕ) (xs : List Float) (i : ℕ) (bs : List ℕ) (d : Float) → i < length xs → 2 * i + 2 ≤ length b
+    → bs ≡ sample_bytes (get_or xs i d)
+    → set (set (put b 0 (bytes_of (take i xs))) (2 * i) (get_or bs 0 0)) (2 * i + 1) (get_or bs 1 0) ≡ put b 0 (bytes_of (take (i + 1) xs))
+unfolding sample_bytes
+one_more b xs i bs d h g e =
     let s = bytes_of (take i xs) in
-    ap (λ (k : ℕ). set (set (put b 0 s) (2 * i) (v % 256)) k (v / 256)) (add-one (2 * i))
-    ∙ put_next b s (2 * i) (v % 256 ∷ v / 256 ∷ []) (bytes_taken xs i (omega arith)) g
-    ∙ ap (λ (t : List ℕ). put b 0 (s ++ t)) (two_bytes v (get_or xs i d) small e)
-    ∙ ap (put b 0) (sym (bytes_more xs i d h))
-
--- and of the loop that copies bytes
-pub one_byte_more : (b s : List ℕ) (i d : ℕ) → i < length s → i < length b → set (put b 0 (take i s)) i (get_or s i d) ≡ put b 0 (take (i + 1) s)
-one_byte_more b s i d h g =
-    put_next b (take i s) i (get_or s i d ∷ []) (length-take-le i s (omega arith)) (omega arith)
-    ∙ ap (put b 0) (sym (ap (λ (k : ℕ). take k s) (add-one i) ∙ take-suc s i d h))
+    let x = get_or xs i d in
+    rw e (ap (λ (k : ℕ). set (set (put b 0 s) (2 * i) (get_or (sample_bytes x) 0 0)) k (get_or (sample_bytes x) 1 0)) (add-one (2 * i))
+    ∙ put_next b s (2 * i) (sample_bytes x) (bytes_taken xs i (omega arith)) g
+    ∙ ap (put b 0) (sym (bytes_more xs i d h)))
 
 -- ---- a header, and samples right after it
 

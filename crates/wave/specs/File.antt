@@ -1,12 +1,11 @@
 -- What the writers leave in a buffer. Document 01: "a window's sample bytes start at any place in the caller's buffer"; "The file of
 -- given f32 samples fills the buffer's first 44 + 2n bytes (30). Other bytes keep their values"; refusal 30 is "WAV buffer too
 -- short, or over 2,000,000,000 given samples", and then nothing is written. Assumes nothing.
-use Rattle.std.specs.Prelude.{Bool, true, false, ◌&&◌, List, ◌++◌, ℕ, ◌+◌, ◌-◌, ◌*◌, ◌/◌, min, leb, length, take, drop, Float}
+use Rattle.std.specs.Prelude.{Bool, true, false, ◌&&◌, List, ◌++◌, ℕ, ◌+◌, ◌-◌, ◌*◌, ◌/◌, min, leb, length, take, drop, Float, Result, Ok, Err}
 use Rattle.form.specs.declared.size.Size.{Size}
 use Rattle.form.specs.Form.{header}
 use Rattle.form.specs.Sample.{bytes_of}
-use Rattle.wave.specs.declared.file.Written.{Written}
-use Rattle.wave.specs.declared.file.Written.TheVariants.{Wrote, TooShort}
+use Rattle.wave.specs.declared.file.TooShort.{TooShort}
 
 -- the buffer with the bytes bs from place `at` on, if they fit; the bytes before and after them are the ones that were there
 unfoldable pub put : List ℕ → ℕ → List ℕ → List ℕ
@@ -43,9 +42,9 @@ abbrev pub refused : ℕ → Told
 refused number = record { number = number; count = 0; line = 0 }
 
 -- document 01's number and values for each case of a writer's answer
-unfoldable pub told : Written → Told
-told (Wrote n) = written n
-told TooShort = refused 30
+unfoldable pub told : Result ℕ TooShort → Told
+told (Ok n) = written n
+told (Err why) = refused 30
 
 -- ---- a header
 

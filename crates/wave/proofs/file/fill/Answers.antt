@@ -1,33 +1,21 @@
--- The invariant of `fill`: the part holds the bytes of the first i samples, and the rest as it was. Assumes nothing.
-use mathlib.Core.Path.{◌≡◌, refl, sym}
-use Prim.Native.Nat.{◌≤◌, ◌-◌}
-use native.Mathlib.Omega.{arith}
-use lib.ListN.{length, take, length-set}
-use Rattle.form.specs.Sample.{bytes_of}
-use Rattle.wave.specs.File.{put}
+-- `fill` keeps that the part holds the bytes of the samples so far, and the rest as it was. Assumes nothing.
+use Rattle.std.proofs.Common.{◌≡◌, ℕ, ◌/◌, ◌%◌, List, [], ◌∷◌, sym, ap, ◌∙◌, arith}
+use lib.Ieee.{Float}
+use Rattle.form.specs.Form.{le}
+use Rattle.form.specs.Sample.{sample16, word, sample_bytes, bytes_of}
 use Rattle.wave.proofs.Writes.{put_none, one_more}
 use Rattle.wave.proofs.file.fill.Goals as goal
 
 pub loop-i-init : goal.loop-i-init
-loop-i-init c = (omega arith, refl, unfold bytes_of in sym (put_none _ 0))
+unfolding bytes_of
+loop-i-init c = sym (put_none _ 0)
 
-pub overflow_cast-part-in-loop-i : goal.overflow_cast-part-in-loop-i
-overflow_cast-part-in-loop-i c = omega (arith, c.sample-v.type_inv)
-
-pub bounds-part-i-in-loop-i : goal.bounds-part-i-in-loop-i
-bounds-part-i-in-loop-i c = simp length-set (omega arith)
+-- the two bytes of a stored number are those of its sample
+two_bytes : (v : ℕ) (bs : List ℕ) (x : Float) → bs ≡ v % 256 ∷ v / 256 % 256 ∷ [] → v ≡ word (sample16 x) → bs ≡ sample_bytes x
+unfolding sample_bytes le
+two_bytes v bs x b e = b ∙ ap (λ (k : ℕ). k % 256 ∷ k / 256 % 256 ∷ []) e
 
 pub loop-i-preserved : goal.loop-i-preserved
-loop-i-preserved c = (
-  omega arith,
-  simp length-set c.loop-i.invariant.1,
-  rw c.loop-i.invariant.2 (one_more c.args.part.now c.args.samples.now c.loop-i.i c.sample-v.result _ (omega arith) (omega arith) (omega (arith, c.sample-v.type_inv)) c.sample-v.ensures),
-)
-
-pub shape_of-part : goal.shape_of-part
-shape_of-part c = c.loop-i.invariant.1
-
-pub returns : goal.returns
-returns c =
-    let e : c.loop-i.i ≡ c.args.n = omega arith in
-    rw (c.loop-i.invariant.2, e)
+loop-i-preserved c =
+    let e = two_bytes _ _ _ c.to_le_bytes.ensures c.sample.ensures in
+    rw c.loop-i.invariant (one_more c.args.part.now c.args.samples.now c.loop-i.i c.to_le_bytes.result _ (omega arith) (omega arith) e)

@@ -1,20 +1,19 @@
 -- `write_header` makes the test of the definition, and the 44 bytes that it copies are the header. Assumes nothing.
 use mathlib.Core.Path.{sym, ap, ◌∙◌}
-use borrow.Author.Rules.{rules}
 use borrow.Author.Tests.{le-leb, lt-leb}
 use Rattle.wave.specs.File.{put, told, header_told, header_in}
 use Rattle.wave.proofs.Writes.{header_put}
 use Rattle.wave.proofs.file.write_header.Goals as goal
 
-pub returns-then-buffer-lt44 : goal.returns-then-buffer-lt44
+pub returns-then-buffer-lt-HEADER_BYTES : goal.returns-then-buffer-lt-HEADER_BYTES
 unfolding told header_told header_in
-returns-then-buffer-lt44 c =
-    record { answer = rw (lt-leb _ _ c.if-buffer-lt44.true, header_told); bytes = rw (lt-leb _ _ c.if-buffer-lt44.true, header_in) }
+returns-then-buffer-lt-HEADER_BYTES c =
+    record { answer = rw (lt-leb _ _ c.if-buffer-lt-HEADER_BYTES.true, header_told); bytes = rw (lt-leb _ _ c.if-buffer-lt-HEADER_BYTES.true, header_in) }
 
 pub returns : goal.returns
 unfolding told header_told
 returns c =
-    let room = c.if-buffer-lt44.false in
+    let room = c.if-buffer-lt-HEADER_BYTES.false in
     record {
       answer = rw (le-leb _ _ room, header_told);
       bytes = c.store.ensures
