@@ -2,7 +2,6 @@
 
 #![tactic(auto)]
 
-pub mod answer;
 pub mod length;
 pub mod note;
 pub mod refusal;

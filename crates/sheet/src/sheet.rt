@@ -3,13 +3,20 @@
 use crate::note::Note;
 use instrument::machine::Instrument;
 
+// How many parts, notes and instruments a sheet holds.
+pub const PARTS_MOST: usize = 16;
+
+pub const NOTES_MOST: usize = 2048;
+
+pub const INSTRUMENTS_MOST: usize = 32;
+
 #[derive(Clone, Copy)]
 pub struct Sheet {
     // How many parts there are, and how many notes each of them has, in order of first appearance.
     pub parts: usize,
-    pub counts: [usize; 16],
-    pub notes: [Note; 2048],
+    pub counts: [usize; PARTS_MOST],
+    pub notes: [Note; NOTES_MOST],
     // How many instruments there are; the first is the default one.
     pub instruments: usize,
-    pub table: [Instrument; 32],
+    pub table: [Instrument; INSTRUMENTS_MOST],
 }
