@@ -7,28 +7,21 @@ ghost use Rattle.sheet.specs.Capacities.{notes_most};
 ghost use Rattle.sheet.specs.Lengths.{end_of};
 ghost use Rattle.columns.specs.Columns.{notes_in};
 
-use lines::names::least;
-use sheet::length::{larger, samples};
+use sheet::length::samples;
+use sheet::sheet::NOTES_MOST;
 
 // A number of a column: past its end 0.0.
 pub fn number_at(floats: &[f32], i: usize) -> f32
     ensures { result ≡ get_or floats.now i plus_zero }
 {
-    if i < floats.len() {
-        return floats[i];
-    }
-    0.0
+    floats.get(i).copied().unwrap_or(0.0)
 }
 
 // The release of an instrument: past the table no number.
 fn release_at(releases: &[f32], i: usize) -> f32
     ensures { result ≡ get_or releases.now i nan }
 {
-    if i < releases.len() {
-        return releases[i];
-    }
-    let zero: f32 = 0.0;
-    zero / zero
+    releases.get(i).copied().unwrap_or(f32::NAN)
 }
 
 // The largest end of the first `count` notes of two columns, at most 2,048 of them: 0 where there is none. An instrument past the table of releases has a
@@ -42,16 +35,14 @@ pub fn part_end(
 ) -> u64
     ensures { result ≡ end_of rate releases.now 0 (notes_in floats.now (take (min count notes_most) instruments.now)) }
 {
-    let most = least(least(count, 2048), instruments.len());
-    let mut i = 0;
-    let mut start: u64 = 0;
+    let most = count.min(NOTES_MOST).min(instruments.len());
+    let mut start = 0;
     let mut end: u64 = 0;
-    while i < most {
+    for (i, instrument) in instruments[..most].iter().enumerate() {
         let duration = number_at(floats, 3 * i + 2);
-        let release = release_at(releases, instruments[i] as usize);
-        end = larger(end, start + samples(duration + release, rate));
-        start = start + samples(duration, rate);
-        i += 1;
+        let release = release_at(releases, usize::from(*instrument));
+        end = end.max(start + samples(duration + release, rate));
+        start += samples(duration, rate);
     }
     end
 }
