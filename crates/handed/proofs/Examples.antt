@@ -11,6 +11,8 @@ use Rattle.ieee.specs.Constants.{plus_zero, minus_zero, one}
 use Rattle.tone.specs.Time.{count_of, length_of}
 use Rattle.instrument.specs.declared.machine.Command.TheVariants as Command
 use Rattle.instrument.specs.declared.machine.Instrument.{Instrument}
+use Rattle.std.proofs.Common.{Ok, Err}
+use Rattle.sheet.specs.declared.refusal.Refusal.TheVariants.{NoSheet}
 use Rattle.sheet.specs.declared.note.Note.{Note}
 use Rattle.sheet.specs.declared.sheet.Sheet.{Sheet}
 use Rattle.sheet.specs.Lengths.{sounding_of, is_counted}
@@ -43,7 +45,7 @@ unfolding instrument_passes
 no_number = refl
 
 minus_zero_law : instrument_passes (released minus_zero) ≡ true
-unfolding instrument_passes all
+unfolding instrument_passes
 minus_zero_law = refl
 
 minus_zero_lasts : note_passes 44100 (released minus_zero ∷ []) (lasting minus_zero) ≡ true
@@ -68,11 +70,11 @@ fed_back n =
     }
 
 within : instrument_passes (fed_back 255) ≡ true
-unfolding instrument_passes all slot_passes command_passes
+unfolding instrument_passes slot_passes command_passes
 within = refl
 
 past : instrument_passes (fed_back 256) ≡ false
-unfolding instrument_passes all slot_passes command_passes
+unfolding instrument_passes slot_passes command_passes
 past = refl
 
 -- ---- odd, and legal
@@ -87,12 +89,12 @@ first = released plus_zero
 odd_notes : all (note_passes 44100 (first ∷ []))
     (sounding nan one ∷ sounding one nan ∷ sounding (inf false) one ∷ sounding (inf true) one ∷ sounding one (inf false) ∷ sounding one (inf true) ∷ sounding nan nan ∷ [])
     ≡ true
-unfolding all note_passes releases_of is_counted sounding_of length_of count_of add mul of_int round
+unfolding note_passes releases_of is_counted sounding_of length_of count_of add mul of_int round
 odd_notes = refl
 
 -- the largest number that a `usize` holds
 stacked : instrument_passes (record { release = plus_zero; commands = record { command = Command.Stack 18446744073709551615 } ∷ []; count = 1 }) ≡ true
-unfolding instrument_passes all slot_passes command_passes
+unfolding instrument_passes slot_passes command_passes
 stacked = refl
 
 -- a sheet of one part and one note, with two instruments; the note is the first one's
@@ -107,10 +109,10 @@ endless by =
     }
 
 -- an endless release passes where no note has it, and the sheet is a second long; with a note it is too long a note
-endless_unused : checked_of 44100 (endless 0) ≡ record { passes = true; length = 44100 }
+endless_unused : checked_of 44100 (endless 0) ≡ Ok 44100
 unfolding checked_of total releases_of is_counted sounding_of length_of count_of add mul of_int round
 endless_unused = refl
 
-endless_used : checked_of 44100 (endless 1) ≡ record { passes = false; length = 0 }
+endless_used : checked_of 44100 (endless 1) ≡ Err NoSheet
 unfolding checked_of total releases_of is_counted sounding_of length_of count_of add mul of_int round
 endless_used = refl

@@ -12,3 +12,4 @@ pub mod Ends
 pub mod Examples
 pub mod Passing
 pub mod Checks
+pub mod Counted
