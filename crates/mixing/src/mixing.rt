@@ -9,20 +9,9 @@ ghost use Rattle.mixing.specs.Mixing.{mix_one, mix_all};
 
 use handed::check::released;
 use instrument::machine::Instrument;
-use lines::names::least;
-use sheet::length::{larger, samples};
+use sheet::length::samples;
 use sheet::note::Note;
-use sheet::sheet::Sheet;
-
-// The difference of two places, 0 where the second is the larger.
-fn beyond(a: usize, b: usize) -> usize
-    ensures { result ≡ a - b }
-{
-    if a <= b {
-        return 0;
-    }
-    a - b
-}
+use sheet::sheet::{INSTRUMENTS_MOST, NOTES_MOST, PARTS_MOST, Sheet};
 
 // Mixes into a slice, whose first element is sample `from`, a note that starts at sample `start` and sounds in the elements from a to e. The
 // sine's table is lent, so that it is made once for all notes.
@@ -42,16 +31,13 @@ fn mix_note(
     ensures { out.new ≡ mix_one covered (placed_note rate by note start) from out.old }
 {
     let first = (from + a) - start;
-    let added = beyond(covered, from + a);
-    let amplitude = note.amplitude;
-    let frequency = note.frequency;
-    let duration = note.duration;
+    let added = covered.saturating_sub(from + a);
     by.fill_by(
         table,
         &mut out[a..e],
-        amplitude,
-        frequency,
-        duration,
+        note.amplitude,
+        note.frequency,
+        note.duration,
         rate,
         first,
         added,
@@ -64,33 +50,27 @@ pub fn mix(sheet: Sheet, out: &mut [f32], rate: u32, from: usize)
     ensures { out.new ≡ mix_all 0 (placed rate sheet) from out.old }
 {
     let table = sine::quarter::table();
-    let instruments = least(sheet.instruments, 32);
-    let parts = least(sheet.parts, 16);
+    let instruments = sheet.instruments.min(INSTRUMENTS_MOST);
+    let parts = sheet.parts.min(PARTS_MOST);
     let mut covered: usize = 0;
     let mut n: usize = 0;
-    let mut p: usize = 0;
-    while p < parts {
-        let stop = n + least(sheet.counts[p], 2048 - n);
+    for p in 0..parts {
+        let stop = n + sheet.counts[p].min(NOTES_MOST - n);
         let mut at: usize = 0;
-        while n < stop {
-            let note = sheet.notes[n];
-            let k = least(note.instrument, 31);
-            let release = released(sheet.table[k], note.instrument < instruments);
-            let duration = note.duration;
-            let takes = samples(duration, rate) as usize;
-            let sounds = samples(duration + release, rate) as usize;
-            let before = covered;
-            let start = at;
-            covered = larger(covered as u64, (at + sounds) as u64) as usize;
-            at += takes;
-            n += 1;
-            let a = beyond(start, from);
-            let e = least(beyond(start + sounds, from), out.len());
+        for k in n..stop {
+            let note = sheet.notes[k];
+            let place = note.instrument.min(INSTRUMENTS_MOST - 1);
+            let release = released(sheet.table[place], note.instrument < instruments);
+            let sounds = samples(note.duration + release, rate) as usize;
+            let a = at.saturating_sub(from);
+            let e = (at + sounds).saturating_sub(from).min(out.len());
             if a < e {
-                let by = sheet.table[k];
-                mix_note(&table, out, from, by, note, rate, start, a, e, before);
+                let by = sheet.table[place];
+                mix_note(&table, out, from, by, note, rate, at, a, e, covered);
             }
+            covered = covered.max(at + sounds);
+            at += samples(note.duration, rate) as usize;
         }
-        p += 1;
+        n = stop;
     }
 }
