@@ -6,22 +6,22 @@ ghost use Rattle.engine.specs.Files.{header_of, header_in};
 
 use form::size::Size;
 use handed::check::check;
-use sheet::answer::Answer;
+use sheet::refusal::Refusal;
 use sheet::sheet::Sheet;
 
 // Writes the header of a sheet's file, with the RIFF size of that name, into the buffer's first 44 bytes. A sheet that does not pass the check is refused
 // with 28, a buffer that has fewer bytes with 30, and then nothing is written.
-pub fn write_header(sheet: Sheet, buffer: &mut [u8], size: Size, rate: u32) -> Answer
+pub fn write_header(
+    sheet: Sheet,
+    buffer: &mut [u8],
+    size: Size,
+    rate: u32,
+) -> Result<usize, Refusal>
     ensures answer { answered result ≡ header_of rate sheet (length buffer.old) }
     ensures bytes { buffer.new ≡ header_in size rate sheet buffer.old }
 {
-    let checked = check(sheet, rate);
-    if !checked.passes {
-        return Answer::Refused(28);
-    }
-    if buffer.len() < 44 {
-        return Answer::Refused(30);
-    }
-    wave::file::write_header(buffer, size, rate, checked.length as u32);
-    Answer::Count(44)
+    let samples = check(sheet, rate)?;
+    wave::file::write_header(buffer, size, rate, samples as u32).map_err(
+        |_| Refusal::BufferTooShort,
+    )
 }

@@ -13,7 +13,7 @@ use Rattle.sheet.specs.declared.sheet.Sheet.{Sheet}
 use Rattle.sheet.specs.Lengths as lengths
 use Rattle.sheet.specs.Lengths.{sounding_of, samples_of, longest_of}
 use Rattle.sheet.specs.Parts.{cut, counts_of, parts_of, total, instruments_of, releases_of, length_of}
-use Rattle.mixing.specs.Sounding.{Placed, end_of}
+use Rattle.mixing.specs.Sounding.{Placed}
 use Rattle.mixing.specs.Placing.{nobody, player_of, sounds_of, takes_of, placed_note, placed_from, placed_parts, placed}
 use Rattle.evaluator.proofs.Fronts.{Joined, none, more, last_end}
 

@@ -11,11 +11,13 @@ ghost use Rattle.mixing.specs.Placing.{placed};
 ghost use Rattle.windows.specs.Written.{written_of, written_in};
 
 use handed::check::check;
-use lines::names::least;
 use mixing::mixing::mix;
-use sheet::answer::Answer;
+use sheet::refusal::Refusal;
 use sheet::sheet::Sheet;
 use wave::file::write_samples;
+
+// How many samples are made at a time.
+const BLOCK: usize = 16384;
 
 // Writes n samples from `start` on, which exist and fit, as bytes from place `at` on. They are made in blocks, large enough that the walk over the
 // sheet's notes costs little beside them.
@@ -23,13 +25,12 @@ fn write_blocks(sheet: Sheet, buffer: &mut [u8], at: usize, rate: u32, start: us
     requires { (is_sheet rate sheet ≡ true) × ((start + n ≤ length_of rate sheet) × (at + 2 * n ≤ length buffer.old)) }
     ensures { buffer.new ≡ put buffer.old at (bytes_of (samples_from (placed rate sheet) start n)) }
 {
-    let mut block = [0.0f32; 16384];
-    let none: usize = 0;
+    let mut block = [0.0f32; BLOCK];
     let mut done: usize = 0;
     while done < n {
-        let k = least(n - done, 16384);
-        mix(sheet, &mut block[none..k], rate, start + done);
-        write_samples(buffer, at + 2 * done, &block[none..k]);
+        let k = (n - done).min(BLOCK);
+        mix(sheet, &mut block[..k], rate, start + done);
+        write_samples(buffer, at + 2 * done, &block[..k]);
         done += k;
     }
 }
@@ -37,28 +38,30 @@ fn write_blocks(sheet: Sheet, buffer: &mut [u8], at: usize, rate: u32, start: us
 // Writes as bytes, from place `at` on, the samples of a sheet from sample `start` on that exist and fit whole, and answers how many. A sheet that does
 // not pass the check is refused with 28, a start past the sheet's length with 29, a place past the buffer's length with 30, and so are under two
 // bytes where a sample exists; then nothing is written.
-pub fn write_window(sheet: Sheet, buffer: &mut [u8], at: usize, rate: u32, start: usize) -> Answer
+pub fn write_window(
+    sheet: Sheet,
+    buffer: &mut [u8],
+    at: usize,
+    rate: u32,
+    start: usize,
+) -> Result<usize, Refusal>
     ensures answer { answered result ≡ written_of rate sheet start (length buffer.old) at }
     ensures bytes { buffer.new ≡ written_in rate sheet start buffer.old at }
 {
-    let checked = check(sheet, rate);
-    if !checked.passes {
-        return Answer::Refused(28);
-    }
-    let samples = checked.length;
+    let samples = check(sheet, rate)?;
     if start > samples {
-        return Answer::Refused(29);
+        return Err(Refusal::StartPastEnd);
     }
     if at > buffer.len() {
-        return Answer::Refused(30);
+        return Err(Refusal::BufferTooShort);
     }
-    let n = least((buffer.len() - at) / 2, samples - start);
+    let n = ((buffer.len() - at) / 2).min(samples - start);
     if n == 0 {
         if start < samples {
-            return Answer::Refused(30);
+            return Err(Refusal::BufferTooShort);
         }
-        return Answer::Count(0);
+        return Ok(0);
     }
     write_blocks(sheet, buffer, at, rate, start, n);
-    Answer::Count(n)
+    Ok(n)
 }
