@@ -16,8 +16,10 @@ use Rattle.ieee.specs.Constants.{plus_zero}
 use Rattle.ieee.specs.Times.{is_time}
 use Rattle.ieee.proofs.Times.{nonnegative_time}
 use Rattle.lines.specs.Tokens.{tokens_of}
-use Rattle.number.specs.declared.decimal.Decimal.{Decimal}
-use Rattle.number.specs.declared.decimal.Decimal.TheVariants.{Value, Unreadable, TooLong}
+use Rattle.std.specs.Prelude.{Result, Ok, Err}
+use Rattle.text.specs.declared.parsed.Parsed.{Parsed}
+use Rattle.number.specs.declared.decimal.NoDecimal.{NoDecimal}
+use Rattle.number.specs.declared.decimal.NoDecimal.TheVariants.{Unreadable, TooLong}
 use Rattle.number.specs.Decimal.{decimal_at}
 use Rattle.number.proofs.Cuts.{decimal_plain}
 use Rattle.instrument.specs.declared.machine.Command.{Command}
@@ -52,11 +54,12 @@ abbrev Times : List Float → Type 0
 Times [] = Unit
 Times (x ∷ xs) = T (is_time x) × Times xs
 
-readable_time : (line : ℕ) (t : List ℕ) (d : Decimal) → decimal_at t 0 ≡ d → Holds (λ (x : Float). T (is_time x)) (readable line d)
+readable_time : (line : ℕ) (t : List ℕ) (d : Result (Parsed Float) NoDecimal) → decimal_at t 0 ≡ d → Holds (λ (x : Float). T (is_time x)) (readable line d)
 unfolding readable
-readable_time line t (Value x next) e = holds_going (λ (x : Float). T (is_time x)) x (nonnegative_time x (decimal_plain t 0 x next e).nonnegative)
-readable_time line t Unreadable e = holds_refused _ _ _
-readable_time line t TooLong e = holds_refused _ _ _
+readable_time line t (Ok found) e =
+    holds_going (λ (x : Float). T (is_time x)) found.value (nonnegative_time found.value (decimal_plain t 0 found e).nonnegative)
+readable_time line t (Err Unreadable) e = holds_refused _ _ _
+readable_time line t (Err TooLong) e = holds_refused _ _ _
 
 -- as many as there are tokens, and all are times
 abbrev Numbers : ℕ → List Float → Type 0
