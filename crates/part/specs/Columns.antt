@@ -9,6 +9,7 @@ use Rattle.loops.specs.Loops.{Loop, cut_of}
 use Rattle.columns.specs.Columns.{notes_in}
 use Rattle.tables.specs.Named.{macros_in, Macro}
 use Rattle.part.specs.declared.state.State.{State}
+use Rattle.part.specs.declared.state.Book.{Book as Lent}
 use Rattle.part.specs.Body.{Progress, Book, with_notes}
 
 -- ---- loops
@@ -81,3 +82,7 @@ book_of rate ms ns rs = record { macros = ms; names = ns; releases = rs; rate = 
 -- macros by their two tables, instruments by the table of their names and by their releases
 abbrev pub book_in : ℕ → List ℕ → List ℕ → List ℕ → List ℕ → List Float → Book
 book_in rate s ms bs ns rs = book_of rate (macros_in s ms bs) (names_in s ns) rs
+
+-- the same of what is lent to the reader of bodies
+abbrev pub held : Lent → Book
+held b = book_in b.rate b.source.now b.macros.now b.bodies.now b.names.now b.releases.now

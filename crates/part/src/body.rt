@@ -8,14 +8,14 @@ ghost use Rattle.sheet.specs.Capacities.{instruments_most};
 ghost use Rattle.sheet.specs.Refusals.{Outcome};
 ghost use Rattle.tables.specs.Named.{Macro};
 ghost use Rattle.part.specs.Body.{Progress, called, does, stepped, run, inside};
-ghost use Rattle.part.specs.Columns.{Ready, Becomes, progress_of, book_of, book_in};
+ghost use Rattle.part.specs.Columns.{Ready, Becomes, progress_of, book_of, held};
 ghost use Rattle.items.specs.Items.{items_of};
 ghost use Rattle.items.specs.Written.{item_of, is_call};
 
 use crate::command::{change, instrument};
 use crate::note::noted;
 use crate::open_loops::{closed, cut_here, opened};
-use crate::state::{STEPS, State};
+use crate::state::{Book, STEPS, State};
 use items::item::{Item, is_call, item_at};
 use lines::names::place_named;
 use settings::command::{
@@ -27,32 +27,30 @@ use text::parsed::Parsed;
 
 // What an item does that is no macro call.
 fn done(
-    source: &[u8],
-    names: &[usize],
-    releases: &[f32],
+    book: &Book,
     text: &[u8],
     floats: &mut [f32],
     instruments: &mut [u8],
     loops: &mut [usize],
     st: State,
     line: usize,
-    rate: u32,
     at: usize,
     next: usize,
     item: Item,
 ) -> State
     requires ready { Ready st floats.old instruments.old loops.old }
-    requires few_releases { (length releases.now ≤ instruments_most) × (is_call item ≡ false) }
+    requires few_releases { (length book.now.releases.now ≤ instruments_most) × (is_call item ≡ false) }
     requires places { (at ≤ next) × (next ≤ length text.now) }
     ensures { (ms : List Macro) (inner : Macro → Progress → Outcome Progress) →
-        let book = book_of rate ms (names_in source.now names.now) releases.now in
+        let names = names_in book.now.source.now book.now.names.now in
+        let named = book_of book.now.rate ms names book.now.releases.now in
         let before = progress_of st floats.old instruments.old loops.old in
         let found = item_of text.now at next item in
-        Becomes (does book line inner found before) result floats.new instruments.new loops.new }
+        Becomes (does named line inner found before) result floats.new instruments.new loops.new }
 {
     let env = st.env;
     match item {
-        Item::Note(n) => noted(releases, floats, instruments, st, line, rate, n),
+        Item::Note(n) => noted(book.releases, floats, instruments, st, line, book.rate, n),
         Item::Up => change(st, line, Ok(env.octave_up())),
         Item::Down => change(st, line, Ok(env.octave_down())),
         Item::Opening => opened(loops, st, line),
@@ -63,7 +61,7 @@ fn done(
         Item::Tempo(n) => change(st, line, tempo_command(env, n)),
         Item::Amplitude(d) => change(st, line, amplitude_command(env, d)),
         Item::Key(k) => change(st, line, key_command(env, k)),
-        Item::Instrument => instrument(source, names, st, line, &text[at..next]),
+        Item::Instrument => instrument(book.source, book.names, st, line, &text[at..next]),
         Item::Call => st,
         Item::Unknown => st.refused(Refusal::UnknownCharacter, line),
     }
@@ -72,29 +70,24 @@ fn done(
 // One item: its step is counted, and that there are too many precedes all else.
 #[cycle(body_call_item)]
 fn item(
-    source: &[u8],
-    macros: &[usize],
-    bodies: &[usize],
-    names: &[usize],
-    releases: &[f32],
+    book: &Book,
     text: &[u8],
     floats: &mut [f32],
     instruments: &mut [u8],
     loops: &mut [usize],
     st: State,
     line: usize,
-    rate: u32,
     at: usize,
     found: Parsed<Item>,
     nest: usize,
 ) -> State
     requires ready { Ready st floats.old instruments.old loops.old }
-    requires few_releases { length releases.now ≤ instruments_most }
+    requires few_releases { length book.now.releases.now ≤ instruments_most }
     requires places { (at ≤ found.next) × (found.next ≤ length text.now) }
-    ensures { let book = book_in rate source.now macros.now bodies.now names.now releases.now in
+    ensures { let lent = held book.now in
         let before = progress_of st floats.old instruments.old loops.old in
         let this = item_of text.now at found.next found.value in
-        Becomes (stepped book line (inside book nest line) this before)
+        Becomes (stepped lent line (inside lent nest line) this before)
         result floats.new instruments.new loops.new }
 {
     let steps = st.steps;
@@ -108,33 +101,16 @@ fn item(
     let Parsed { value: kind, next } = found;
     if is_call(kind) {
         let name = &text[at..next];
-        return call(
-            source,
-            macros,
-            bodies,
-            names,
-            releases,
-            floats,
-            instruments,
-            loops,
-            s,
-            line,
-            rate,
-            name,
-            nest,
-        );
+        return call(book, floats, instruments, loops, s, line, name, nest);
     }
     done(
-        source,
-        names,
-        releases,
+        book,
         text,
         floats,
         instruments,
         loops,
         s,
         line,
-        rate,
         at,
         next,
         kind,
@@ -145,27 +121,28 @@ fn item(
 // source.
 #[cycle(body_call_item)]
 fn call(
-    source: &[u8],
-    macros: &[usize],
-    bodies: &[usize],
-    names: &[usize],
-    releases: &[f32],
+    book: &Book,
     floats: &mut [f32],
     instruments: &mut [u8],
     loops: &mut [usize],
     st: State,
     line: usize,
-    rate: u32,
     name: &[u8],
     nest: usize,
 ) -> State
     requires ready { Ready st floats.old instruments.old loops.old }
-    requires few_releases { length releases.now ≤ instruments_most }
-    ensures { let book = book_in rate source.now macros.now bodies.now names.now releases.now in
+    requires few_releases { length book.now.releases.now ≤ instruments_most }
+    ensures { let lent = held book.now in
         let before = progress_of st floats.old instruments.old loops.old in
-        Becomes (called book line (inside book nest line) name.now before)
+        Becomes (called lent line (inside lent nest line) name.now before)
         result floats.new instruments.new loops.new }
 {
+    let Book {
+        source,
+        macros,
+        bodies,
+        ..
+    } = *book;
     let place = place_named(source, macros, name);
     let at = 2 * place;
     if macros.len() - at < 2 || bodies.len() < at + 2 {
@@ -180,45 +157,26 @@ fn call(
     let to = end.min(source.len());
     let from = begin.min(to);
     let text = &source[from..to];
-    body(
-        source,
-        macros,
-        bodies,
-        names,
-        releases,
-        text,
-        floats,
-        instruments,
-        loops,
-        st,
-        own,
-        rate,
-        nest - 1,
-    )
+    body(book, text, floats, instruments, loops, st, own, nest - 1)
 }
 
 // The items of a text one after the other, up to its end, a `;` or a refusal.
 #[cycle(body_call_item)]
 pub(crate) fn body(
-    source: &[u8],
-    macros: &[usize],
-    bodies: &[usize],
-    names: &[usize],
-    releases: &[f32],
+    book: &Book,
     text: &[u8],
     floats: &mut [f32],
     instruments: &mut [u8],
     loops: &mut [usize],
     st: State,
     line: usize,
-    rate: u32,
     nest: usize,
 ) -> State
     requires ready { Ready st floats.old instruments.old loops.old }
-    requires few_releases { length releases.now ≤ instruments_most }
-    ensures { let book = book_in rate source.now macros.now bodies.now names.now releases.now in
+    requires few_releases { length book.now.releases.now ≤ instruments_most }
+    ensures { let lent = held book.now in
         let before = progress_of st floats.old instruments.old loops.old in
-        Becomes (run book line (inside book nest line) (items_of text.now) before)
+        Becomes (run lent line (inside lent nest line) (items_of text.now) before)
         result floats.new instruments.new loops.new }
 {
     let mut s = st;
@@ -234,18 +192,13 @@ pub(crate) fn body(
         let found = item_at(text, from);
         let next = found.next;
         s = item(
-            source,
-            macros,
-            bodies,
-            names,
-            releases,
+            book,
             text,
             floats,
             instruments,
             loops,
             s,
             line,
-            rate,
             from,
             found,
             nest,

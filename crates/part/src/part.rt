@@ -7,7 +7,7 @@ ghost use Rattle.part.specs.Columns.{Ready, Becomes, book_in};
 ghost use Rattle.part.specs.Reading.{is_ready, part_in, state_after, Held};
 
 use crate::body::body;
-use crate::state::{NOTES, OPEN_LOOPS, State};
+use crate::state::{Book, NOTES, OPEN_LOOPS, State};
 use environment::environment::Environment;
 use sheet::refusal::Refusal;
 
@@ -86,19 +86,22 @@ pub fn read_part(
     ) {
         return st.refused(Refusal::Full, line);
     }
-    let r = body(
+    let book = Book {
         source,
         macros,
         bodies,
         names,
         releases,
+        rate,
+    };
+    let r = body(
+        &book,
         text,
         floats,
         instruments,
         loops,
         st,
         line,
-        rate,
         NESTED_CALLS,
     );
     settled(st, r)

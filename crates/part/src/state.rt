@@ -40,3 +40,15 @@ impl State {
         }
     }
 }
+
+// What a body is read in: the source, in which the tables of macros' names, of their bodies and of instruments' names have
+// their places, the instruments' releases, and the rate at which notes are counted in samples.
+#[derive(Clone, Copy)]
+pub(crate) struct Book<'a> {
+    pub source: &'a [u8],
+    pub macros: &'a [usize],
+    pub bodies: &'a [usize],
+    pub names: &'a [usize],
+    pub releases: &'a [f32],
+    pub rate: u32,
+}

@@ -47,17 +47,17 @@ call-returns-then-macros-at-lt2 t c =
     (elim c.then-macros-at-lt2.branch [
       | call-then-macros-at-lt2-via-then-macros-at-lt2 w ↦
           call_unknown _ _ _ _ _ _ _ _ c.requires.ready
-          (macro_unknown c.args.source.now c.args.name.now c.args.macros.now c.args.bodies.now _ c.place_named-place.ensures.meant
-          (omega (arith, w.if-macros-at-lt2.true, (names_halved c.args.source.now c.args.macros.now).low)))
+          (macro_unknown c.args.book.now.source.now c.args.name.now c.args.book.now.macros.now c.args.book.now.bodies.now _ c.place_named-place.ensures.meant
+          (omega (arith, w.if-macros-at-lt2.true, (names_halved c.args.book.now.source.now c.args.book.now.macros.now).low)))
       | call-then-macros-at-lt2-via-else-macros-at-lt2+then-bodies-at w ↦
           call_unknown _ _ _ _ _ _ _ _ c.requires.ready
-          (macro_bodiless c.args.source.now c.args.name.now c.args.macros.now c.args.bodies.now _ c.place_named-place.ensures.meant w.if-bodies-at.true)
+          (macro_bodiless c.args.book.now.source.now c.args.name.now c.args.book.now.macros.now c.args.book.now.bodies.now _ c.place_named-place.ensures.meant w.if-bodies-at.true)
     ])
 
 pub call-returns-then-nest-eq0 : goal.call-returns-then-nest-eq0
 call-returns-then-nest-eq0 t c =
     rw c.refused-then-nest-eq0.ensures
-    (call_deep _ _ _ _ _ _ _ _ c.requires.ready _ (macro_known c.args.source.now c.args.name.now c.args.macros.now c.args.bodies.now _ c.place_named-place.ensures.meant (omega (arith, c.if-macros-at-lt2.false, (names_halved c.args.source.now c.args.macros.now).high)) (omega (arith, c.if-bodies-at.false))) c.if-nest-eq0.true)
+    (call_deep _ _ _ _ _ _ _ _ c.requires.ready _ (macro_known c.args.book.now.source.now c.args.name.now c.args.book.now.macros.now c.args.book.now.bodies.now _ c.place_named-place.ensures.meant (omega (arith, c.if-macros-at-lt2.false, (names_halved c.args.book.now.source.now c.args.book.now.macros.now).high)) (omega (arith, c.if-bodies-at.false))) c.if-nest-eq0.true)
 
 pub call-body-requires : goal.call-body-requires
 call-body-requires t c =
@@ -66,7 +66,7 @@ call-body-requires t c =
 
 pub call-returns : goal.call-returns
 call-returns t c =
-    call_known _ _ _ _ _ _ _ _ c.requires.ready _ (macro_known c.args.source.now c.args.name.now c.args.macros.now c.args.bodies.now _ c.place_named-place.ensures.meant (omega (arith, c.if-macros-at-lt2.false, (names_halved c.args.source.now c.args.macros.now).high)) (omega (arith, c.if-bodies-at.false))) c.if-nest-eq0.false _ (between_cut _ _ _ _ _ c.min-to.ensures c.min-from.ensures) _ _ _ _ c.body.ensures
+    call_known _ _ _ _ _ _ _ _ c.requires.ready _ (macro_known c.args.book.now.source.now c.args.name.now c.args.book.now.macros.now c.args.book.now.bodies.now _ c.place_named-place.ensures.meant (omega (arith, c.if-macros-at-lt2.false, (names_halved c.args.book.now.source.now c.args.book.now.macros.now).high)) (omega (arith, c.if-bodies-at.false))) c.if-nest-eq0.false _ (between_cut _ _ _ _ _ c.min-to.ensures c.min-from.ensures) _ _ _ _ c.body.ensures
 
 pub item-returns-then-steps-ge-STEPS : goal.item-returns-then-steps-ge-STEPS
 item-returns-then-steps-ge-STEPS t c = rw c.refused.ensures (step_none _ _ _ _ _ _ _ _ c.requires.ready c.if-steps-ge-STEPS.true)
