@@ -1,6 +1,6 @@
--- Laws of keys: what the key says of each letter, and which letters it is made of. Assumes nothing.
+-- Laws of keys: which letters a key is made of, and where its text ends. Assumes nothing.
 use mathlib.Core.Path.{◌≡◌, refl, sym, ap, ◌∙◌}
-use mathlib.Core.Bool.{Bool, false, ◌||◌}
+use mathlib.Core.Bool.{Bool, ◌||◌}
 use mathlib.Core.List.{List, [], ◌∷◌}
 use Prim.Native.Nat.{ℕ, ◌+◌, ◌-◌}
 use native.Mathlib.Omega.{arith}
@@ -11,23 +11,9 @@ use Rattle.std.specs.List.{list_any}
 use Rattle.text.specs.Fronts.{front}
 use Rattle.text.specs.Parsed.{parsed}
 use Rattle.text.specs.declared.parsed.Parsed.{Parsed}
-use Rattle.text.proofs.Rows.{row_none}
 use Rattle.text.proofs.Fronts.{take_front}
 use Rattle.keys.specs.declared.key.Accidental.{Accidental}
-use Rattle.keys.specs.declared.key.Key.{Key}
-use Rattle.keys.specs.Keys.{mark_at, is_key_letter, among, key_of, key_from, key_at, key_rows, in_key}
-
--- ---- letters of a key
-
--- at a letter that is known, the key's answer is computed
-pub in_at : (k : Key) (letter l : ℕ) → letter ≡ l → in_key k l ≡ in_key k letter
-in_at k letter l e = ap (in_key k) (sym e)
-
--- no letter from a to g
-pub in_none : (k : Key) (l : ℕ) → (l ≡ 97 → ⊥) → (l ≡ 98 → ⊥) → (l ≡ 99 → ⊥) → (l ≡ 100 → ⊥) → (l ≡ 101 → ⊥) → (l ≡ 102 → ⊥) → (l ≡ 103 → ⊥)
-    → false ≡ in_key k l
-unfolding in_key
-in_none k l a b c d e f g = sym (row_none l false (key_rows k) (a, (b, (c, (d, (e, (f, (g, tt))))))))
+use Rattle.keys.specs.Keys.{mark_at, is_key_letter, among, key_of, key_from, key_at}
 
 -- ---- a letter among letters
 

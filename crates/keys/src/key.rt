@@ -107,6 +107,7 @@ pub fn key_at(s: &[u8], i: usize) -> Option<Parsed<Key>>
 
 impl Key {
     // Whether a letter is in the key.
+    #[tactic(auto, unfolding(crate::specs::Keys::in_key, text::specs::Characters::row_of))]
     fn has(self, letter: u8) -> bool
         ensures { result ≡ in_key self letter }
     {
@@ -123,6 +124,7 @@ impl Key {
     }
 
     // The accidental that the key gives to a letter: none, natural, where the letter is not in the key.
+    #[tactic(auto, unfolding(crate::specs::Keys::accidental_in))]
     pub fn get(self, letter: u8) -> Accidental
         ensures { result ≡ accidental_in self letter }
     {
