@@ -11,34 +11,33 @@ use lib.Seq.{drop-drop, get_or-drop}
 use lib.Ieee.{Float, nan}
 use Rattle.lines.specs.Lines.{behind_lines}
 use Rattle.tree.specs.Lines.{Line}
+use Rattle.std.specs.Prelude.{Option as Optional, Some, None}
+use Rattle.sheet.specs.declared.refusal.Refusal.{Refusal}
 use Rattle.sheet.specs.Refusals.{going}
 use Rattle.sheet.proofs.Outcomes.{going_same, refused_same, going_apart}
 use Rattle.strict.specs.declared.mode.Mode.{Mode}
+use Rattle.operators.proofs.Numbers.{number_same}
 use Rattle.blocks.specs.declared.block.Block.{Block}
 use Rattle.blocks.specs.Blocks.{lines_in, block_read, first_read, block_outcome}
 use Rattle.blocks.proofs.Kept.{lines_length}
-use Rattle.blocks.proofs.Reading.{Answered}
+use Rattle.blocks.proofs.Reading.{Answered, block}
 
 -- ---- the answer
-
--- an answer by its values in their order
-abbrev block : ℕ → ℕ → ℕ → Block
-block count next refusal = record { count = count; next = next; refusal = refusal }
 
 -- what two answers have alike
 record Alike (r q : Block) : Type 0 where
   refusal : r.refusal ≡ q.refusal
   count : r.count ≡ q.count
 
-alike : (line : ℕ) (fs gs : List Float) (ss ts : List ℕ) (m x k n y j : ℕ)
+alike : (line : ℕ) (fs gs : List Float) (ss ts : List ℕ) (m x : ℕ) (k : Optional Refusal) (n y : ℕ) (j : Optional Refusal)
     → block_outcome line (block m x k) fs ss ≡ block_outcome line (block n y j) gs ts → Alike (block m x k) (block n y j)
 unfolding block_outcome
-alike line fs gs ss ts m x zero n y zero e =
+alike line fs gs ss ts m x None n y None e =
     record { refusal = refl; count = sym (lines_length m fs ss) ∙ ap length (going_same _ _ e) ∙ lines_length n gs ts }
-alike line fs gs ss ts m x zero n y (suc j) e = going_apart _ _ _ e
-alike line fs gs ss ts m x (suc k) n y zero e = going_apart _ _ _ (sym e)
-alike line fs gs ss ts m x (suc k) n y (suc j) e =
-    let z = refused_same (List Line) _ _ _ _ e in record { refusal = z.0; count = omega (arith, z.1) }
+alike line fs gs ss ts m x None n y (Some j) e = going_apart _ _ _ e
+alike line fs gs ss ts m x (Some k) n y None e = going_apart _ _ _ (sym e)
+alike line fs gs ss ts m x (Some k) n y (Some j) e =
+    let z = refused_same (List Line) _ _ _ _ e in record { refusal = ap Some (number_same _ _ z.0); count = omega (arith, z.1) }
 
 -- ---- the columns
 
@@ -111,13 +110,12 @@ pub promised : (mode : Mode) (source : List ℕ) (at : ℕ) (fs₀ : List Float)
     (fs : List Float) (ss : List ℕ) → Answered mode source at fs₀ ss₀ fs ss r
     → length fs ≡ length fs₀ → length ss ≡ length ss₀ → Promised mode source at fs₀ ss₀ r fs ss
 promised mode source at fs₀ ss₀ r fs ss a wide high =
-    let behind = a.1.1.1.1.1 in
     record {
-      read = a.0;
-      place = a.1.0;
-      front = behind.1.0;
-      numbers = behind.1.1.0;
-      shape = behind.1.1.1;
+      read = a.read;
+      place = a.place;
+      front = a.front;
+      numbers = a.rest.0;
+      shape = a.rest.1;
       wide = wide;
       high = high;
     }
@@ -133,7 +131,7 @@ module _ (mode : Mode) (source : List ℕ) (at : ℕ) (fs₀ : List Float) (ss�
   pub block_same : r ≡ q
   block_same =
       ap (λ (n : ℕ). block r.count n r.refusal) h.place
-      ∙ ap₂ (λ (c n : ℕ). block c (behind_lines c source at) n) same.count same.refusal
+      ∙ ap₂ (λ (c : ℕ) (n : Optional Refusal). block c (behind_lines c source at) n) same.count same.refusal
       ∙ sym (ap (λ (n : ℕ). block q.count n q.refusal) k.place)
 
   pub columns_alike : (fs ≡ gs) × (ss ≡ ts)

@@ -1,34 +1,32 @@
 -- Operator lines in their two columns: there are as many as are asked for, only the front of a column tells the first
 -- lines, and a line put behind them is one more and leaves what stands behind it. Assumes nothing.
 use mathlib.Core.Path.{◌≡◌, refl, sym, ap, ap₂, ◌∙◌}
-use mathlib.Core.List.{List, [], ◌∷◌, ◌++◌, append_assoc}
+use mathlib.Core.List.{List, [], ◌∷◌, ◌++◌}
 use Prim.Native.Nat.{ℕ, zero, suc, ◌+◌, ◌*◌, ◌≤◌, ◌<◌}
-use native.Mathlib.Numerals.{add-one, towards_suc}
+use native.Mathlib.Numerals.{add-one}
 use native.Mathlib.Omega.{arith}
-use lib.ListN.{length, take, drop, set, get_or}
-use lib.Seq.{sets, sets-eq, take_at, drop_at, drop-drop, length-take-le, get_or-take, get_or-drop}
+use lib.ListN.{length, take, drop, get_or}
+use lib.Seq.{drop_at, drop-drop, length-take-le, get_or-take, get_or-drop}
+use borrow.Rule.Slice.PartMut.{put_mid}
+use Rattle.std.proofs.lemmas.Slice.{take-put_mid_below, drop-put_mid}
 use lib.Ieee.{Float, nan}
 use Rattle.operator.specs.declared.operator.Operator.{Operator}
 use Rattle.tree.specs.Lines.{Line}
 use Rattle.blocks.specs.Blocks.{lines_in}
 
--- ---- a run of stores
+-- ---- a part that is written
 
-module _ {A : Type 0} (l : List A) (at : ℕ) (vs : List A) (h : at + length vs ≤ length l) where
-  stored : sets l at vs ≡ take at l ++ (vs ++ drop (at + length vs) l)
-  stored = sets-eq vs l at h ∙ append_assoc (take at l) vs (drop (at + length vs) l)
+module _ {A : Type 0} (l : List A) (at k : ℕ) (vs : List A) (e : length vs ≡ k) (h : at + k ≤ length l) where
+  -- it leaves what stands before it, and what is written stands behind that
+  written_front : take at (put_mid at k l vs) ≡ take at l
+  written_front = take-put_mid_below at k l vs at (omega arith) (omega arith)
 
-  -- it leaves what stands before it, and what it stored stands behind that
-  stored_front : take at (sets l at vs) ≡ take at l
-  stored_front = ap (take at) stored ∙ take_at (take at l) _ at (length-take-le at l (omega arith))
-
-  stored_rest : drop at (sets l at vs) ≡ vs ++ drop (at + length vs) l
-  stored_rest = ap (drop at) stored ∙ drop_at (take at l) _ at (length-take-le at l (omega arith))
+  written_rest : drop at (put_mid at k l vs) ≡ vs ++ drop k (drop at l)
+  written_rest = drop_at (take at l) (vs ++ drop k (drop at l)) at (length-take-le at l (omega arith))
 
   -- and behind that is what stood there
-  stored_behind : drop (at + length vs) (sets l at vs) ≡ drop (at + length vs) l
-  stored_behind =
-      sym (drop-drop (length vs) at (sets l at vs)) ∙ ap (drop (length vs)) stored_rest ∙ drop_at vs _ (length vs) refl
+  written_behind : (n : ℕ) → at + k ≤ n → drop n (put_mid at k l vs) ≡ drop n l
+  written_behind n o = drop-put_mid at k l vs n o (omega arith) e
 
 -- ---- lines
 
@@ -72,48 +70,28 @@ lines_front n fs gs ss ts e f =
 
 -- ---- one line more
 
--- six numbers, and two, from a place on
-abbrev with_six : List Float → ℕ → Operator → List Float
-with_six fs at o =
-    set (set (set (set (set (set fs at o.amplitude) (at + 1) o.freqratio) (at + 2) o.attack) (at + 3) o.decay) (at + 4) o.sustain) (at + 5)
-    o.release
+-- what is written of a line in each column
+abbrev pub six : Operator → List Float
+six o = o.amplitude ∷ o.freqratio ∷ o.attack ∷ o.decay ∷ o.sustain ∷ o.release ∷ []
 
-abbrev with_two : List ℕ → ℕ → ℕ → ℕ → List ℕ
-with_two ss at tabs feedback = set (set ss at tabs) (at + 1) feedback
+abbrev pub two : ℕ → Operator → List ℕ
+two tabs o = tabs ∷ o.feedback ∷ []
 
-six_sets : (fs : List Float) (at : ℕ) (o : Operator)
-    → with_six fs at o ≡ sets fs at (o.amplitude ∷ o.freqratio ∷ o.attack ∷ o.decay ∷ o.sustain ∷ o.release ∷ [])
-six_sets fs at o = simp towards_suc
+module _ (n : ℕ) (fs : List Float) (ss : List ℕ) (tabs : ℕ) (o : Operator) (h : n < 32) (p : 192 ≤ length fs) (q : 64 ≤ length ss) where
+  pub one_more : (k j : ℕ) → k ≡ 6 → j ≡ 2
+      → lines_in (n + 1) (put_mid (6 * n) k fs (six o)) (put_mid (2 * n) j ss (two tabs o)) ≡ lines_in n fs ss ++ (record { indent = tabs; op = o } ∷ [])
+  unfolding lines_in
+  one_more k j e f =
+      let gs = put_mid (6 * n) k fs (six o) in
+      let ts = put_mid (2 * n) j ss (two tabs o) in
+      ap (λ (m : ℕ). lines_in m gs ts) (add-one n)
+      ∙ lines_last n gs ts
+      ∙ ap₂ (λ (xs ys : List Line). xs ++ ys)
+      (lines_front n gs fs ts ss (written_front fs (6 * n) k (six o) (sym e) (omega arith)) (written_front ss (2 * n) j (two tabs o) (sym f) (omega arith)))
+      (ap₂ (lines_in 1) (written_rest fs (6 * n) k (six o) (sym e) (omega arith)) (written_rest ss (2 * n) j (two tabs o) (sym f) (omega arith)))
 
-two_sets : (ss : List ℕ) (at tabs feedback : ℕ) → with_two ss at tabs feedback ≡ sets ss at (tabs ∷ feedback ∷ [])
-two_sets ss at tabs feedback = simp towards_suc
+  pub numbers_behind : (k : ℕ) → k ≡ 6 → drop (6 * (n + 1)) (put_mid (6 * n) k fs (six o)) ≡ drop (6 * (n + 1)) fs
+  numbers_behind k e = written_behind fs (6 * n) k (six o) (sym e) (omega arith) (6 * (n + 1)) (omega arith)
 
-pub one_more : (n : ℕ) (fs : List Float) (ss : List ℕ) (tabs : ℕ) (o : Operator) → n < 32 → 192 ≤ length fs → 64 ≤ length ss
-    → lines_in (n + 1) (with_six fs (6 * n) o) (with_two ss (2 * n) tabs o.feedback) ≡ lines_in n fs ss ++ (record { indent = tabs; op = o } ∷ [])
-unfolding lines_in
-one_more n fs ss tabs o h p q =
-    let vs = o.amplitude ∷ o.freqratio ∷ o.attack ∷ o.decay ∷ o.sustain ∷ o.release ∷ [] in
-    let ws = tabs ∷ o.feedback ∷ [] in
-    ap₂ (lines_in (n + 1)) (six_sets fs (6 * n) o) (two_sets ss (2 * n) tabs o.feedback)
-    ∙ ap (λ (k : ℕ). lines_in k (sets fs (6 * n) vs) (sets ss (2 * n) ws)) (add-one n)
-    ∙ lines_last n (sets fs (6 * n) vs) (sets ss (2 * n) ws)
-    ∙ ap₂ (λ (xs ys : List Line). xs ++ ys)
-    (lines_front n (sets fs (6 * n) vs) fs (sets ss (2 * n) ws) ss (stored_front fs (6 * n) vs (omega arith)) (stored_front ss (2 * n) ws (omega arith)))
-    (ap₂ (lines_in 1) (stored_rest fs (6 * n) vs (omega arith)) (stored_rest ss (2 * n) ws (omega arith)))
-
-pub behind_same : (n : ℕ) (fs : List Float) (ss : List ℕ) (tabs : ℕ) (o : Operator)
-    → n < 32 → 192 ≤ length fs → 64 ≤ length ss
-    → (drop (6 * (n + 1)) (with_six fs (6 * n) o) ≡ drop (6 * (n + 1)) fs)
-    × (drop (2 * (n + 1)) (with_two ss (2 * n) tabs o.feedback) ≡ drop (2 * (n + 1)) ss)
-behind_same n fs ss tabs o h p q =
-    let vs = o.amplitude ∷ o.freqratio ∷ o.attack ∷ o.decay ∷ o.sustain ∷ o.release ∷ [] in
-    let ws = tabs ∷ o.feedback ∷ [] in
-    let e : 6 * (n + 1) ≡ 6 * n + length vs = omega arith in
-    let f : 2 * (n + 1) ≡ 2 * n + length ws = omega arith in (
-      ap₂ (λ (k : ℕ) (l : List Float). drop k l) e (six_sets fs (6 * n) o)
-          ∙ stored_behind fs (6 * n) vs (omega arith)
-          ∙ ap (λ (k : ℕ). drop k fs) (sym e),
-      ap₂ (λ (k : ℕ) (l : List ℕ). drop k l) f (two_sets ss (2 * n) tabs o.feedback)
-          ∙ stored_behind ss (2 * n) ws (omega arith)
-          ∙ ap (λ (k : ℕ). drop k ss) (sym f),
-    )
+  pub shape_behind : (j : ℕ) → j ≡ 2 → drop (2 * (n + 1)) (put_mid (2 * n) j ss (two tabs o)) ≡ drop (2 * (n + 1)) ss
+  shape_behind j f = written_behind ss (2 * n) j (two tabs o) (sym f) (omega arith) (2 * (n + 1)) (omega arith)

@@ -16,18 +16,21 @@ use borrow.Author.Tests.{le-leb, lt-leb}
 use Rattle.lines.specs.Lines.{lines_of, line_width, behind_lines}
 use Rattle.lines.specs.Tokens.{tokens_of}
 use Rattle.lines.proofs.LinePlaces.{Lined}
-use Rattle.number.specs.declared.digits.Int.{Int}
-use Rattle.number.specs.declared.digits.Int.TheVariants.{Number, Absent}
-use Rattle.number.specs.declared.decimal.Decimal.{Decimal}
-use Rattle.number.specs.declared.decimal.Decimal.TheVariants.{Value, Unreadable, TooLong}
+use Rattle.std.specs.Prelude.{Option as Optional, Some, None, Result, Ok, Err}
+use Rattle.text.specs.declared.parsed.Parsed.{Parsed}
+use Rattle.number.specs.declared.decimal.NoDecimal.{NoDecimal}
+use Rattle.number.specs.declared.decimal.NoDecimal.TheVariants.{Unreadable, TooLong}
 use Rattle.number.specs.Digits.{value_most, int_at}
 use Rattle.number.specs.Decimal.{decimal_at}
 use Rattle.operator.specs.declared.operator.Operator.{Operator}
 use Rattle.tree.specs.Lines.{Line, indent_refusal}
+use Rattle.sheet.specs.declared.refusal.Refusal.{Refusal}
+use Rattle.sheet.specs.declared.refusal.Refusal.TheVariants.{Full}
+use Rattle.sheet.specs.Numbers.{number_of}
 use Rattle.sheet.specs.Refusals.{Outcome, going, refused, ◌>>=◌, ◌>>◌}
 use Rattle.sheet.proofs.Basics.{false_true}
 use Rattle.sheet.proofs.Holds.{Holds, holds_of}
-use Rattle.sheet.proofs.Outcomes.{then_going, then_refused, then_same, Numbered, numbered_going, numbered_refused, numbered_of, numbered_unless, numbered_if, numbered_then}
+use Rattle.sheet.proofs.Outcomes.{then_going, then_refused, then_same, Numbered, numbered_going, numbered_refused, numbered_unless, numbered_if, numbered_then}
 use Rattle.strict.specs.declared.mode.Mode.{Mode}
 use Rattle.blocks.specs.declared.block.Block.{Block}
 use Rattle.operators.specs.OperatorLines.{ends, operator_lines, indent_of, indented, readable, numbers_read, present, feedback_read, operator_read, operators_read}
@@ -46,16 +49,16 @@ module _ (line : ℕ) where
       go zero = h
       go (suc m) = omega arith
 
-  readable_numbered : (d : Decimal) → Numbered (readable line d)
+  readable_numbered : (d : Result (Parsed Float) NoDecimal) → Numbered (readable line d)
   unfolding readable
-  readable_numbered (Value x next) = numbered_going x
-  readable_numbered Unreadable = numbered_refused _ 18 line (omega arith)
-  readable_numbered TooLong = numbered_refused _ 19 line (omega arith)
+  readable_numbered (Ok found) = numbered_going found.value
+  readable_numbered (Err Unreadable) = numbered_refused _ 18 line (omega arith)
+  readable_numbered (Err TooLong) = numbered_refused _ 19 line (omega arith)
 
-  present_numbered : (i : Int) → Numbered (present line i)
+  present_numbered : (i : Optional (Parsed ℕ)) → Numbered (present line i)
   unfolding present
-  present_numbered (Number v next) = numbered_going v
-  present_numbered Absent = numbered_refused _ 18 line (omega arith)
+  present_numbered (Some found) = numbered_going found.value
+  present_numbered None = numbered_refused _ 18 line (omega arith)
 
 module _ (mode : Mode) (line : ℕ) where
   numbers_numbered : (ts : List (List ℕ)) → Numbered (numbers_read mode line ts)
@@ -153,37 +156,42 @@ reading_start mode source at fs ss h k =
       shape = refl;
     }
 
--- what the reader promises of an answer
+-- what the reader promises of an answer, by the names of its clauses
 abbrev pub Answered : Mode → List ℕ → ℕ → List Float → List ℕ → List Float → List ℕ → Block → Type 0
-Answered mode source at fs₀ ss₀ fs ss b =
-    ((line : ℕ) → block_outcome line b fs ss ≡ block_read mode line (drop at source) (length fs₀) (length ss₀))
-    × ((b.next ≡ behind_lines b.count source at)
-    × ((b.refusal ≡ 0 → lines_of (drop b.next source) ≡ drop b.count (lines_of (drop at source)))
-    × (((at ≤ b.next) × (at ≤ length source → b.next ≤ length source))
-    × ((b.count ≤ 32)
-    × ((has_room (length fs₀) (length ss₀) ≡ false → (fs ≡ fs₀) × (ss ≡ ss₀))
-    × (((line : ℕ) → first_read mode line b.count (drop at source) ≡ going (lines_in b.count fs ss))
-    × ((drop (6 * b.count) fs ≡ drop (6 * b.count) fs₀) × (drop (2 * b.count) ss ≡ drop (2 * b.count) ss₀))))))))
+Answered mode source at fs₀ ss₀ fs ss b = record {
+  read : (line : ℕ) → block_outcome line b fs ss ≡ block_read mode line (drop at source) (length fs₀) (length ss₀);
+  place : b.next ≡ behind_lines b.count source at;
+  onward : b.refusal ≡ None → lines_of (drop b.next source) ≡ drop b.count (lines_of (drop at source));
+  within : (at ≤ b.next) × (at ≤ length source → b.next ≤ length source);
+  few : b.count ≤ 32;
+  kept : has_room (length fs₀) (length ss₀) ≡ false → (fs ≡ fs₀) × (ss ≡ ss₀);
+  front : (line : ℕ) → first_read mode line b.count (drop at source) ≡ going (lines_in b.count fs ss);
+  rest : (drop (6 * b.count) fs ≡ drop (6 * b.count) fs₀) × (drop (2 * b.count) ss ≡ drop (2 * b.count) ss₀);
+}
+
+-- an answer by its values in their order
+abbrev pub block : ℕ → ℕ → Optional Refusal → Block
+block count next refusal = record { count = count; next = next; refusal = refusal }
 
 module _ (mode : Mode) (source : List ℕ) (at : ℕ) (fs : List Float) (ss : List ℕ) where
-  answered_narrow : has_room (length fs) (length ss) ≡ false → Answered mode source at fs ss fs ss (record { count = 0; next = at; refusal = 21 })
+  answered_narrow : has_room (length fs) (length ss) ≡ false → Answered mode source at fs ss fs ss (block 0 at (Some Full))
   unfolding block_outcome block_read first_read operators_read lines_in behind_lines
-  answered_narrow e = (
-    λ line. ap (refused 21) (add-zero line) ∙ sym (rw (e, block_read)),
-    (
-      refl,
-      (
-        (λ z. absurd (omega (arith, z))),
-        ((omega arith, λ i. i), (omega arith, ((λ k. (refl, refl)), (λ line. refl, (refl, refl))))),
-      ),
-    ),
-  )
+  answered_narrow e = record {
+    read = λ line. ap (refused 21) (add-zero line) ∙ sym (rw (e, block_read));
+    place = refl;
+    onward = λ z. cc;
+    within = (omega arith, λ i. i);
+    few = omega arith;
+    kept = λ k. (refl, refl);
+    front = λ line. refl;
+    rest = (refl, refl);
+  }
 
-  pub narrow_numbers : length fs < 192 → Answered mode source at fs ss fs ss (record { count = 0; next = at; refusal = 21 })
+  pub narrow_numbers : length fs < 192 → Answered mode source at fs ss fs ss (block 0 at (Some Full))
   unfolding has_room
   narrow_numbers h = answered_narrow (rw (lt-leb 192 (length fs) h))
 
-  pub narrow_shape : 192 ≤ length fs → length ss < 64 → Answered mode source at fs ss fs ss (record { count = 0; next = at; refusal = 21 })
+  pub narrow_shape : 192 ≤ length fs → length ss < 64 → Answered mode source at fs ss fs ss (block 0 at (Some Full))
   unfolding has_room
   narrow_shape h k = answered_narrow (rw (le-leb 192 (length fs) h, lt-leb 64 (length ss) k))
 
@@ -222,28 +230,25 @@ module _ (mode : Mode) (source : List ℕ) (at : ℕ) (fs₀ : List Float) (ss�
       ∙ then_going [] _ _ refl
       ∙ ap going (append-nil (lines_in count fs ss))
 
-  abbrev Stands : Type 0
-  Stands =
-      (has_room (length fs₀) (length ss₀) ≡ false → (fs ≡ fs₀) × (ss ≡ ss₀))
-      × (((line : ℕ) → first_read mode line count (drop at source) ≡ going (lines_in count fs ss))
-      × ((drop (6 * count) fs ≡ drop (6 * count) fs₀) × (drop (2 * count) ss ≡ drop (2 * count) ss₀)))
-
-  stands : Stands
-  stands = (roomy, (front_read, (r.numbers, r.shape)))
-
   -- no operator line follows
-  answered_done : operator_lines (lines_of (drop place source)) ≡ [] → Answered mode source at fs₀ ss₀ fs ss (record { count = count; next = place; refusal = 0 })
+  answered_done : operator_lines (lines_of (drop place source)) ≡ [] → Answered mode source at fs₀ ss₀ fs ss (block count place None)
   unfolding block_outcome operators_read
-  answered_done e = (
-    λ line.
+  answered_done e = record {
+    read = λ line.
         sym
         (block_means line
         ∙ then_going [] _ _ (ap (operators_read mode (indent_above count before) (line + count) count) e)
-        ∙ ap going (append-nil (lines_in count fs ss))),
-    (r.behind, ((λ z. r.lines), ((r.onward, r.inside), (r.few, stands)))),
-  )
+        ∙ ap going (append-nil (lines_in count fs ss)));
+    place = r.behind;
+    onward = λ z. r.lines;
+    within = (r.onward, r.inside);
+    few = r.few;
+    kept = roomy;
+    front = front_read;
+    rest = (r.numbers, r.shape);
+  }
 
-  pub answered_end : length source ≤ place → Answered mode source at fs₀ ss₀ fs ss (record { count = count; next = place; refusal = 0 })
+  pub answered_end : length source ≤ place → Answered mode source at fs₀ ss₀ fs ss (block count place None)
   unfolding lines_of operator_lines
   answered_end h = answered_done (rw (drop_of_length-le source h))
 
@@ -255,7 +260,7 @@ module _ (mode : Mode) (source : List ℕ) (at : ℕ) (fs₀ : List Float) (ss�
     below : lines_of (drop place source) ≡ text ∷ lines_of (drop next source)
     below = l.lines ∙ ap (λ (t : List ℕ). t ∷ lines_of (drop next source)) (sym l.line)
 
-    pub answered_other : ends text ≡ true → Answered mode source at fs₀ ss₀ fs ss (record { count = count; next = place; refusal = 0 })
+    pub answered_other : ends text ≡ true → Answered mode source at fs₀ ss₀ fs ss (block count place None)
     answered_other e = answered_done (ap operator_lines below ∙ lines_ended text _ e)
 
     -- an operator line
@@ -263,18 +268,24 @@ module _ (mode : Mode) (source : List ℕ) (at : ℕ) (fs₀ : List Float) (ss�
       here : operator_lines (lines_of (drop place source)) ≡ text ∷ operator_lines (lines_of (drop next source))
       here = ap operator_lines below ∙ lines_go_on text _ e
 
-      pub answered_refused : (n : ℕ) → ((line : ℕ) → refused n line ≡ operator_read mode line (indent_above count before) count text)
-          → Answered mode source at fs₀ ss₀ fs ss (record { count = count; next = place; refusal = n })
+      pub answered_refused : (why : Refusal) → ((line : ℕ) → refused (number_of why) line ≡ operator_read mode line (indent_above count before) count text)
+          → Answered mode source at fs₀ ss₀ fs ss (block count place (Some why))
       unfolding block_outcome operators_read
-      answered_refused zero q = absurd (omega (arith, numbered_of _ 0 0 (q 0) (line_numbered mode 0 (indent_above count before) count text)))
-      answered_refused (suc n) q = (
-        λ line.
+      answered_refused why q = record {
+        read = λ line.
             sym
             (block_means line
-            ∙ then_refused (suc n) (line + count) _ _
-            (ap (operators_read mode (indent_above count before) (line + count) count) here ∙ then_refused (suc n) (line + count) _ _ (sym (q (line + count))))),
-        (r.behind, ((λ z. absurd (omega (arith, z))), ((r.onward, r.inside), (r.few, stands)))),
-      )
+            ∙ then_refused (number_of why) (line + count) _ _
+            (ap (operators_read mode (indent_above count before) (line + count) count) here
+            ∙ then_refused (number_of why) (line + count) _ _ (sym (q (line + count)))));
+        place = r.behind;
+        onward = λ z. cc;
+        within = (r.onward, r.inside);
+        few = r.few;
+        kept = roomy;
+        front = front_read;
+        rest = (r.numbers, r.shape);
+      }
 
       module _ (tabs : ℕ) (o : Operator)
           (q : (line : ℕ) → going (record { indent = tabs; op = o }) ≡ operator_read mode line (indent_above count before) count text) where

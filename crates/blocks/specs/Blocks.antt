@@ -1,11 +1,12 @@
 -- The operator lines below a header, as code keeps them: the six numbers of each operator in one column, its indent and its feedback in another. Assumes
 -- nothing.
-use Rattle.std.specs.Prelude.{Bool, true, false, ◌&&◌, List, [], ◌∷◌, ℕ, zero, suc, ◌+◌, ◌*◌, leb, take, drop, get_or, Float}
+use Rattle.std.specs.Prelude.{Bool, true, false, ◌&&◌, List, [], ◌∷◌, ℕ, zero, suc, ◌+◌, ◌*◌, leb, take, drop, get_or, Float, Some, None}
 use Rattle.std.proofs.Math.Option.{none}
 use Rattle.std.specs.Float.{nan}
 use Rattle.lines.specs.Lines.{lines_of}
 use Rattle.tree.specs.Lines.{Line}
 use Rattle.sheet.specs.Capacities.{operators_most}
+use Rattle.sheet.specs.Numbers.{number_of}
 use Rattle.sheet.specs.Refusals.{Outcome, going, refused}
 use Rattle.strict.specs.declared.mode.Mode.{Mode}
 use Rattle.blocks.specs.declared.block.Block.{Block}
@@ -50,4 +51,5 @@ first_read mode line n below = operators_read mode none line 0 (take n (operator
 -- what an answer and the columns tell: a refusal is given at the line behind those that were read
 unfoldable pub block_outcome : ℕ → Block → List Float → List ℕ → Outcome (List Line)
 unfolding lines_in
-block_outcome line b fs ss = elim b.refusal [ zero ↦ going (lines_in b.count fs ss) | suc n ↦ refused (suc n) (line + b.count) ]
+block_outcome line b fs ss =
+    elim b.refusal [ None ↦ going (lines_in b.count fs ss) | Some why ↦ refused (number_of why) (line + b.count) ]

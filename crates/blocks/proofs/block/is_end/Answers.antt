@@ -1,13 +1,6 @@
 -- `is_end` looks at the byte behind the line's blanks, if there is one. Assumes nothing.
-use mathlib.Core.Path.{◌≡◌, sym, ap, ◌∙◌}
-use mathlib.Core.Bool.{true, ◌||◌}
-use mathlib.Core.List.{List}
-use Prim.Native.Nat.{ℕ, ◌+◌, ◌≤◌, ◌<◌}
-use borrow.Author.Rules.{rules}
-use borrow.Author.Tests.{eq-eqb, ne_eqb}
-use lib.Dec.{eqb}
-use lib.ListN.{length, drop, get_or, drop_of_length-le}
-use lib.Seq.{drop-cons}
+use Rattle.std.proofs.Common.{◌≡◌, ◌+◌, ◌≤◌, ◌<◌, ◌||◌, ℕ, true, false, rules, List, length, drop, get_or, eqb, sym, ap, ◌∙◌, drop-cons, drop_of_length-le}
+use borrow.Author.Tests.{ltb-false}
 use Rattle.text.specs.Blanks.{is_blank}
 use Rattle.text.specs.Fronts.{front, after}
 use Rattle.text.proofs.Fronts.{after_is}
@@ -28,17 +21,19 @@ module _ (l : List ℕ) (at : ℕ) (e : at ≡ 0 + length (front is_blank (drop 
   unfolding ends ends_at
   inked h = rw (rest, drop-cons l at 0 h)
 
-pub returns-then-at-l : goal.returns-then-at-l
-returns-then-at-l c = blank _ _ c.blanks_end-at.ensures c.if-at-l.true
+pub returns-in-35 : goal.returns-in-35
+returns-in-35 c =
+    let h = c.in-Some.ensures.lookup in
+    let b = c.in-Some.first.now in
+    let k : true ≡ (eqb b 35 || (eqb b 64 || eqb b 59)) = search rules in
+    k ∙ ap (λ (x : ℕ). eqb x 35 || (eqb x 64 || eqb x 59)) (h.3.1 0) ∙ sym (inked _ _ c.blanks_end.ensures h.3.0)
 
-pub returns-then-b-eq35 : goal.returns-then-b-eq35
-returns-then-b-eq35 c =
-    sym (inked _ _ c.blanks_end-at.ensures c.if-at-l.false ∙ rw (eq-eqb _ _ c.if-b-eq35.true))
+pub returns-in_default : goal.returns-in_default
+returns-in_default c =
+    let h = c.in-Some.ensures.lookup in
+    let b = c.in-Some.first.now in
+    let k : false ≡ (eqb b 35 || (eqb b 64 || eqb b 59)) = search rules in
+    k ∙ ap (λ (x : ℕ). eqb x 35 || (eqb x 64 || eqb x 59)) (h.3.1 0) ∙ sym (inked _ _ c.blanks_end.ensures h.3.0)
 
-pub returns-then-b-eq64 : goal.returns-then-b-eq64
-returns-then-b-eq64 c =
-    sym (inked _ _ c.blanks_end-at.ensures c.if-at-l.false ∙ rw (ne_eqb _ _ c.if-b-eq35.false, eq-eqb _ _ c.if-b-eq64.true))
-
-pub returns : goal.returns
-returns c =
-    sym (inked _ _ c.blanks_end-at.ensures c.if-at-l.false ∙ rw (ne_eqb _ _ c.if-b-eq35.false, ne_eqb _ _ c.if-b-eq64.false))
+pub returns-in-None : goal.returns-in-None
+returns-in-None c = blank _ _ c.blanks_end.ensures (ltb-false _ _ (sym c.in-None.ensures.lookup.0))

@@ -1,14 +1,6 @@
--- `read_block` walks line by line and keeps `Reading`; each exit cites one of its laws. Assumes nothing.
-use mathlib.Core.Path.{◌≡◌, sym, ap, ◌∙◌}
-use mathlib.Core.Bool.{false}
-use Prim.Native.Nat.{◌-◌}
-use native.Mathlib.Omega.{arith}
-use borrow.Author.Rules.{rules}
-use lib.ListN.{length, take, drop}
-use Rattle.lines.proofs.LinePlaces.{Lined, line_placed}
-use Rattle.operators.specs.OperatorLines.{ends}
-use Rattle.operators.specs.Answers.{outcome_of}
-use Rattle.blocks.proofs.Reading.{Reading, reading_start, narrow_numbers, narrow_shape, answered_end, answered_other, answered_refused, line_room, reading_more}
+-- `read_block` walks line by line and keeps `Reading`. Assumes nothing.
+use Rattle.std.proofs.Common.{◌-◌, length}
+use Rattle.blocks.proofs.Reading.{Reading}
 use Rattle.blocks.proofs.block.read_block.Given as goal
 
 abbrev pub invariant-loop-place : goal.invariant-loop-place
