@@ -12,7 +12,6 @@ use lib.ListN.{length, drop, set, get_or, length-append, length-map, length-reve
 use lib.Seq.{get_or-drop, drop-drop}
 use lib.Ieee.{Float, nan, binary32, of_bits, lt}
 use Rattle.instrument.specs.declared.machine.Command.{Command}
-use Rattle.instrument.specs.declared.machine.Command.TheVariants as Command
 use Rattle.instrument.specs.declared.machine.Slot.{Slot}
 use Rattle.instrument.specs.declared.machine.Instrument.{Instrument}
 use Rattle.tree.specs.Lines.{Line, outdent, downward, commands_of, larger, release_from, release_of}

@@ -1,7 +1,6 @@
 -- An instrument laid out in its arrays, from its operator lines: its commands, then commands that say nothing; and its release. Assumes nothing.
 use Rattle.std.specs.Prelude.{List, map, ℕ, ◌/◌, min, length, Float}
 use Rattle.instrument.specs.declared.machine.Command.{Command}
-use Rattle.instrument.specs.declared.machine.Command.TheVariants as Command
 use Rattle.instrument.specs.declared.machine.Slot.{Slot}
 use Rattle.instrument.specs.declared.machine.Instrument.{Instrument}
 use Rattle.tree.specs.Lines.{Line, commands_of, release_of}

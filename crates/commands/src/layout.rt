@@ -7,8 +7,21 @@ ghost use Rattle.commands.specs.Commands.{instrument_of, lines_held};
 ghost use Rattle.commands.specs.Laying.{lines_from, operator_at, above, put, puts, laid};
 
 use instrument::machine::{Command, Instrument, Slot};
-use lines::names::least;
 use operator::operator::Operator;
+
+// How many operators and commands an instrument may have, and how large a feedback may be.
+const OPERATORS_MOST: usize = 32;
+
+const COMMANDS_MOST: usize = 64;
+
+const FEEDBACK_MOST: usize = 255;
+
+// How many numbers a line has in each of the two columns, and which of them is its release.
+const NUMBERS_EACH: usize = 6;
+
+const SHAPE_EACH: usize = 2;
+
+const RELEASE: usize = 5;
 
 // Commands in the front of their array, so many of them.
 #[derive(Clone, Copy)]
@@ -17,78 +30,69 @@ struct Laid {
     count: usize,
 }
 
-// No command.
-fn nothing() -> Laid
-    ensures { result ≡ laid [] }
-{
-    let none = Slot {
-        command: Command::Stack(0),
-    };
-    Laid {
-        commands: [none; 64],
-        count: 0,
+impl Laid {
+    // No command.
+    #[tactic(auto, unfolding(sheet::specs::Padding::padded))]
+    fn nothing() -> Laid
+        ensures { result ≡ laid [] }
+    {
+        let none = Slot {
+            command: Command::Stack(0),
+        };
+        Laid {
+            commands: [none; COMMANDS_MOST],
+            count: 0,
+        }
     }
-}
 
-// One command more.
-fn put(before: Laid, command: Command) -> Laid
-    requires { before.count < 64 }
-    ensures { result ≡ put command before }
-{
-    let mut commands = before.commands;
-    let at = before.count;
-    commands[at] = Slot { command };
-    Laid {
-        commands,
-        count: at + 1,
+    // One command more.
+    fn put(&mut self, command: Command)
+        requires { self.old.count < 64 }
+        ensures { self.new ≡ put command self.old }
+    {
+        self.commands[self.count] = Slot { command };
+        self.count += 1;
     }
-}
-
-// A feedback within its capacity.
-fn feedback_of(n: usize) -> u32
-    ensures { result ≡ min n 255 }
-{
-    if n > 255 {
-        return 255;
-    }
-    n as u32
 }
 
 // The operator of the line i.
 fn operator_at(numbers: &[f32], shape: &[usize], i: usize) -> Operator
-    requires { (6 * i + 6 ≤ length numbers.now) × (2 * i + 2 ≤ length shape.now) }
+    requires numbers { 6 * i + 6 ≤ length numbers.now }
+    requires shape { 2 * i + 2 ≤ length shape.now }
     ensures { result ≡ operator_at i numbers.now shape.now }
 {
-    let at = 6 * i;
-    let place = 2 * i + 1;
-    let feedback = feedback_of(shape[place]);
+    let at = NUMBERS_EACH * i;
+    let place = SHAPE_EACH * i + 1;
     Operator {
         amplitude: numbers[at],
         freqratio: numbers[at + 1],
         attack: numbers[at + 2],
         decay: numbers[at + 3],
         sustain: numbers[at + 4],
-        release: numbers[at + 5],
-        feedback,
+        release: numbers[at + RELEASE],
+        feedback: shape[place].min(FEEDBACK_MOST) as u32,
     }
 }
 
 // The commands of the line i behind those of the lines below it.
-fn lay(before: Laid, numbers: &[f32], shape: &[usize], i: usize) -> Laid
-    requires { (before.count + 2 ≤ 64) × ((6 * i + 6 ≤ length numbers.now) × (2 * i + 2 ≤ length shape.now)) }
-    ensures { result ≡ puts (outdent (above i shape.now) (get_or shape.now (2 * i) 0)) (put (Command.Operator (operator_at i numbers.now shape.now)) before) }
+fn lay(all: &mut Laid, numbers: &[f32], shape: &[usize], i: usize)
+    requires room { all.old.count + 2 ≤ 64 }
+    requires numbers { 6 * i + 6 ≤ length numbers.now }
+    requires shape { 2 * i + 2 ≤ length shape.now }
+    ensures { all.new ≡ puts (outdent (above i shape.now) (get_or shape.now (2 * i) 0))
+        (put (Command.Operator (operator_at i numbers.now shape.now)) all.old) }
 {
     let op = operator_at(numbers, shape, i);
-    let own = shape[2 * i];
-    let line = put(before, Command::Operator(op));
+    let own = shape[SHAPE_EACH * i];
+    all.put(Command::Operator(op));
     if i == 0 {
-        return line;
+        return;
     }
-    let higher = shape[2 * (i - 1)];
+    let higher = shape[SHAPE_EACH * (i - 1)];
     if own >= higher {
-        return line;
+        return;
     }
-    put(line, Command::Stack(higher - own))
+    all.put(Command::Stack(higher - own));
 }
 
 // The larger of a release and those before it.
@@ -107,11 +111,8 @@ fn release_of(numbers: &[f32], n: usize) -> f32
     ensures { (ss : List ℕ) → result ≡ release_of (lines_from n 0 numbers.now ss) }
 {
     let mut most: f32 = 0.0;
-    let mut i = 0;
-    while i < n {
-        let at = 6 * i + 5;
-        most = larger(most, numbers[at]);
-        i += 1;
+    for i in 0..n {
+        most = larger(most, numbers[NUMBERS_EACH * i + RELEASE]);
     }
     most
 }
@@ -120,7 +121,8 @@ fn release_of(numbers: &[f32], n: usize) -> f32
 fn held(numbers: &[f32], shape: &[usize], count: usize) -> usize
     ensures { result ≡ min (min count 32) (min (length numbers.now / 6) (length shape.now / 2)) }
 {
-    least(least(count, 32), least(numbers.len() / 6, shape.len() / 2))
+    let whole = (numbers.len() / NUMBERS_EACH).min(shape.len() / SHAPE_EACH);
+    count.min(OPERATORS_MOST).min(whole)
 }
 
 // The release alone of the instrument of the first `count` lines, without its 2 KB of commands.
@@ -136,18 +138,14 @@ pub fn instrument_of(numbers: &[f32], shape: &[usize], count: usize) -> Instrume
     ensures { result ≡ instrument_of (lines_held count numbers.now shape.now) }
 {
     let most = held(numbers, shape, count);
-    let mut all = nothing();
-    let mut left = most;
-    while left > 0 {
-        left -= 1;
-        all = lay(all, numbers, shape, left);
+    let mut all = Laid::nothing();
+    for i in (0..most).rev() {
+        lay(&mut all, numbers, shape, i);
     }
     let release = release_of(numbers, most);
-    let commands = all.commands;
-    let n = all.count;
     Instrument {
         release,
-        commands,
-        count: n,
+        commands: all.commands,
+        count: all.count,
     }
 }

@@ -1,6 +1,5 @@
 -- `release_held` is `release_of` of the lines that the columns hold. Assumes nothing.
 use mathlib.Core.Path.{◌∙◌}
-use borrow.Author.Rules.{rules}
 use Rattle.commands.proofs.Laying.{most_fits, release_is}
 use Rattle.commands.proofs.layout.release_held.Goals as goal
 
