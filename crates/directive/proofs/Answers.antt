@@ -6,7 +6,7 @@ use Prim.Native.Nat.{ℕ, suc}
 use native.Mathlib.Omega.{arith}
 use Rattle.std.specs.Prelude.{Result, Ok, Err}
 use Rattle.sheet.specs.declared.refusal.Refusal.{Refusal}
-use Rattle.environment.proofs.Numbers.{number_same}
+use Rattle.sheet.proofs.Answers.{number_same}
 use Rattle.sheet.proofs.Outcomes.{going_same, refused_same, going_apart}
 use Rattle.environment.specs.declared.environment.Environment.{Environment}
 use Rattle.environment.specs.Environment.{at_the_start, with_tempo, with_denominator, with_key}

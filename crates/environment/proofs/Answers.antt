@@ -6,7 +6,7 @@ use lib.Ieee.{Float}
 use Rattle.std.specs.Prelude.{Result, Ok, Err}
 use Rattle.sheet.specs.declared.refusal.Refusal.{Refusal}
 use Rattle.sheet.specs.Numbers.{outcome_on}
-use Rattle.environment.proofs.Numbers.{number_same}
+use Rattle.sheet.proofs.Answers.{number_same}
 use Rattle.sheet.proofs.Outcomes.{going_same, refused_same, going_apart}
 use Rattle.environment.specs.Ranges.{value_outcome, amplitude_outcome}
 
