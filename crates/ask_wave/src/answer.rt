@@ -6,7 +6,10 @@ ghost use Rattle.wave.specs.File.{told};
 
 use crate::request::Request;
 use form::size::size_of;
-use wave::file::{Written, write_file, write_header, write_samples};
+use wave::file::{TooShort, write_file, write_header, write_samples};
+
+// Document 01's number of the refusal of a buffer that is too short.
+const TOO_SHORT: u64 = 30;
 
 // The refusal, 0 for none, and how many bytes were written; for a window, how many samples.
 #[derive(Clone, Copy)]
@@ -15,24 +18,24 @@ pub struct Answer {
     pub count: u64,
 }
 
-fn of_written(w: Written) -> Answer
-    ensures { result ≡ printed (told w) }
+fn of_written(written: Result<usize, TooShort>) -> Answer
+    ensures { result ≡ printed (told written) }
 {
-    match w {
-        Written::Wrote(n) => Answer {
+    match written {
+        Ok(n) => Answer {
             refusal: 0,
             count: n as u64,
         },
-        Written::TooShort => Answer {
-            refusal: 30,
+        Err(TooShort) => Answer {
+            refusal: TOO_SHORT,
             count: 0,
         },
     }
 }
 
 pub fn to(r: Request, samples: &[f32], buffer: &mut [u8]) -> Answer
-    ensures value { result ≡ answer_to r (length samples.now) (length buffer.old) }
-    ensures buffer_after { buffer.new ≡ buffer_to r samples.now buffer.old }
+    ensures answer { result ≡ answer_to r (length samples.now) (length buffer.old) }
+    ensures bytes { buffer.new ≡ buffer_to r samples.now buffer.old }
 {
     if r.kind == 0 {
         return of_written(write_file(buffer, samples, size_of(r.place), r.rate));

@@ -6,7 +6,6 @@
 
 mod answer;
 mod floats;
-mod number;
 mod pattern;
 mod request;
 
@@ -43,10 +42,8 @@ fn read_samples(asked: Request, samples: &mut [f32]) -> usize
 fn answer_in(asked: Request, samples: &[f32], buffer: &mut [u8]) -> bool {
     pattern::fill(buffer);
     let a = answer::to(asked, samples, buffer);
-    let refusal = number::little(a.refusal);
-    let count = number::little(a.count);
-    io::write_all(STDOUT_FILENO, &refusal)
-        && io::write_all(STDOUT_FILENO, &count)
+    io::write_all(STDOUT_FILENO, &a.refusal.to_le_bytes())
+        && io::write_all(STDOUT_FILENO, &a.count.to_le_bytes())
         && io::write_all(STDOUT_FILENO, buffer)
 }
 

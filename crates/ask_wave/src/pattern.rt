@@ -9,9 +9,7 @@ ghost use Rattle.ask_wave.specs.Request.{pattern_from};
 pub fn fill(buffer: &mut [u8])
     ensures { buffer.new ≡ sets buffer.old 0 (pattern_from 0 (length buffer.old)) }
 {
-    let mut i = 0;
-    while i < buffer.len() {
-        buffer[i] = (i % 251) as u8;
-        i += 1;
+    for (i, b) in buffer.iter_mut().enumerate() {
+        *b = (i % 251) as u8;
     }
 }

@@ -4,7 +4,6 @@ ghost use Rattle.std.specs.Prelude.{◌≡◌, ◌≤◌, min, length};
 ghost use Rattle.io.specs.Counts.{IsPrefixLen};
 ghost use Rattle.ask_wave.specs.Request.{request_of, follow};
 
-use crate::number::least;
 use fields::word::word;
 
 // Kind 0 asks for the file of the samples, 1 for the samples at a place of the buffer, any other for the
@@ -39,13 +38,13 @@ pub fn follow(r: Request, bytes: &[u8]) -> usize
     if r.kind >= 2 {
         return 0;
     }
-    least(4 * (r.count as usize), bytes.len())
+    (4 * (r.count as usize)).min(bytes.len())
 }
 
 // How long a part of the buffer is asked for: all of it at the most.
 pub fn room(r: Request, buffer: &[u8]) -> usize
-    ensures value { result ≡ min r.room (length buffer.now) }
-    ensures prefix_len { IsPrefixLen result buffer.now }
+    ensures count { result ≡ min r.room (length buffer.now) }
+    ensures within { IsPrefixLen result buffer.now }
 {
-    least(r.room as usize, buffer.len())
+    (r.room as usize).min(buffer.len())
 }

@@ -1,5 +1,4 @@
 -- `main` is safe and ends. Nothing has to hold from turn to turn; the measure is how many turns are left. Assumes nothing.
-use native.Mathlib.Omega.{arith}
 use Rattle.ask_wave.proofs.main.Given as goal
 
 abbrev pub invariant-loop-turns : goal.invariant-loop-turns

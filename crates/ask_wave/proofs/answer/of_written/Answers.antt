@@ -1,12 +1,11 @@
 -- `of_written` prints what is told, by its two cases. Assumes nothing.
-use borrow.Author.Rules.{rules}
 use Rattle.wave.specs.File.{told}
 use Rattle.ask_wave.proofs.answer.of_written.Goals as goal
 
-pub returns-in-Wrote : goal.returns-in-Wrote
+pub returns-in-Ok : goal.returns-in-Ok
 unfolding told
-returns-in-Wrote c = rw c.in-Wrote.is
+returns-in-Ok c = rw c.in-Ok.is
 
-pub returns-in-TooShort : goal.returns-in-TooShort
+pub returns-in-Err : goal.returns-in-Err
 unfolding told
-returns-in-TooShort c = rw c.in-TooShort.is
+returns-in-Err c = rw c.in-Err.is

@@ -3,7 +3,6 @@ use mathlib.Core.Path.{◌≡◌, ap, ◌∙◌}
 use mathlib.Core.List.{List}
 use Prim.Native.Nat.{ℕ}
 use lib.Ieee.{Float}
-use borrow.Author.Rules.{rules}
 use borrow.Author.Tests.{eq-eqb, ne_eqb}
 use Rattle.form.specs.declared.size.Size.{Size}
 use Rattle.wave.specs.File.{header_in, file_in}
@@ -20,16 +19,16 @@ header_sized rate n buffer e = ap (λ (k : Size). header_in k rate n buffer) e
 pub returns-then-r-eq0 : goal.returns-then-r-eq0
 unfolding answer_to buffer_to
 returns-then-r-eq0 c =
-    let is = eq-eqb _ _ c.if-r-eq0.true in record { value = rw (is, answer_to) (c.of_written.ensures ∙ ap printed c.write_file.ensures.answer); buffer_after = rw (is, buffer_to) (c.write_file.ensures.bytes ∙ file_sized _ _ _ c.size_of.ensures) }
+    let is = eq-eqb _ _ c.if-r-eq0.true in record { answer = rw (is, answer_to) (c.of_written.ensures ∙ ap printed c.write_file.ensures.answer); bytes = rw (is, buffer_to) (c.write_file.ensures.bytes ∙ file_sized _ _ _ c.size_of.ensures) }
 
 pub returns-then-r-eq1 : goal.returns-then-r-eq1
 unfolding answer_to buffer_to
 returns-then-r-eq1 c =
     let not-file = ne_eqb _ _ c.if-r-eq0.false in
-    let is = eq-eqb _ _ c.if-r-eq1.true in record { value = rw (not-file, is, answer_to) (ap (λ (n : ℕ). record { refusal = 0; count = n }) c.write_samples-n.ensures.count); buffer_after = rw (not-file, is, buffer_to) c.write_samples-n.ensures.bytes }
+    let is = eq-eqb _ _ c.if-r-eq1.true in record { answer = rw (not-file, is, answer_to) (ap (λ (n : ℕ). record { refusal = 0; count = n }) c.write_samples-n.ensures.count); bytes = rw (not-file, is, buffer_to) c.write_samples-n.ensures.bytes }
 
 pub returns : goal.returns
 unfolding answer_to buffer_to
 returns c =
     let not-file = ne_eqb _ _ c.if-r-eq0.false in
-    let not-window = ne_eqb _ _ c.if-r-eq1.false in record { value = rw (not-file, not-window, answer_to) (c.of_written-2.ensures ∙ ap printed c.write_header.ensures.answer); buffer_after = rw (not-file, not-window, buffer_to) (c.write_header.ensures.bytes ∙ header_sized _ _ _ c.size_of-2.ensures) }
+    let not-window = ne_eqb _ _ c.if-r-eq1.false in record { answer = rw (not-file, not-window, answer_to) (c.of_written-2.ensures ∙ ap printed c.write_header.ensures.answer); bytes = rw (not-file, not-window, buffer_to) (c.write_header.ensures.bytes ∙ header_sized _ _ _ c.size_of-2.ensures) }

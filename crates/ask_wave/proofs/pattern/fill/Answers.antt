@@ -1,11 +1,10 @@
--- `fill` stores byte after byte: what is still to be stored makes the rest of the pattern. The measure is how many bytes are left.
--- Assumes nothing.
-use mathlib.Core.Path.{◌≡◌, refl, ◌∙◌}
+-- `fill` stores byte after byte: what is still to be stored makes the rest of the pattern. Assumes nothing.
+use mathlib.Core.Path.{◌≡◌, ◌∙◌}
 use mathlib.Core.List.{List}
-use Prim.Native.Nat.{ℕ, suc, ◌+◌, ◌-◌, ◌%◌, ◌≤◌}
+use Prim.Native.Nat.{ℕ, suc, ◌+◌, ◌-◌, ◌%◌}
 use native.Mathlib.Numerals.{add-one}
 use native.Mathlib.Omega.{arith}
-use lib.ListN.{length, set, length-set}
+use lib.ListN.{length, set}
 use lib.Seq.{sets}
 use Rattle.ask_wave.specs.Request.{pattern_from}
 use Rattle.ask_wave.proofs.pattern.fill.Goals as goal
@@ -25,16 +24,16 @@ pub loop-i-init : goal.loop-i-init
 loop-i-init c =
     let n = length c.args.buffer.now in
     let e : n - 0 ≡ n = omega arith in
-    (omega arith, (refl, rw e))
+    rw e
 
 pub loop-i-preserved : goal.loop-i-preserved
 loop-i-preserved c =
     let n = length c.args.buffer.now in
     let l = c.loop-i in
-    (omega arith, (simp length-set (omega arith), one_more l.buffer l.i (n - l.i) (n - (l.i + 1)) (omega arith) ∙ l.invariant.1.1))
+    one_more l.buffer l.i (n - l.i) (n - (l.i + 1)) (omega arith) ∙ l.invariant
 
 pub returns : goal.returns
 returns c =
     let n = length c.args.buffer.now in
     let l = c.loop-i in
-    none_left l.buffer l.i (n - l.i) (omega arith) ∙ l.invariant.1.1
+    none_left l.buffer l.i (n - l.i) (omega arith) ∙ l.invariant

@@ -1,5 +1,4 @@
 -- `of` reads the five numbers of a head. Assumes nothing.
-use borrow.Author.Rules.{rules}
 use Rattle.ask_wave.proofs.request.of.Goals as goal
 
 pub returns : goal.returns

@@ -1,9 +1,8 @@
 -- `room` is the smaller of the two, so it counts within the buffer. Assumes nothing.
 use native.Mathlib.Omega.{arith}
-use borrow.Author.Rules.{rules}
 use Rattle.io.proofs.Counting.{prefix_len_of_le}
 use Rattle.ask_wave.proofs.request.room.Goals as goal
 
 pub returns : goal.returns
 returns c =
-    record { value = c.least.ensures; prefix_len = prefix_len_of_le _ _ (omega arith) }
+    record { count = c.min.ensures; within = prefix_len_of_le _ _ (omega arith) }
