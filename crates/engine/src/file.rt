@@ -1,4 +1,5 @@
-// The header of a sheet's WAV file in a lent buffer. The writer says what it answers and what the whole buffer holds afterwards.
+// The header of a sheet's WAV file in a lent buffer. The writer says what it answers and what the whole buffer holds
+// afterwards.
 
 ghost use Rattle.std.specs.Prelude.{◌≡◌, length};
 ghost use Rattle.sheet.specs.Answers.{answered};
@@ -9,8 +10,8 @@ use handed::check::check;
 use sheet::refusal::Refusal;
 use sheet::sheet::Sheet;
 
-// Writes the header of a sheet's file, with the RIFF size of that name, into the buffer's first 44 bytes. A sheet that does not pass the check is refused
-// with 28, a buffer that has fewer bytes with 30, and then nothing is written.
+// Writes the header of a sheet's file, with the RIFF size of that name, into the buffer's first 44 bytes. A sheet that
+// does not pass the check is refused with 28, a buffer that has fewer bytes with 30, and then nothing is written.
 pub fn write_header(
     sheet: Sheet,
     buffer: &mut [u8],
@@ -21,7 +22,6 @@ pub fn write_header(
     ensures bytes { buffer.new ≡ header_in size rate sheet buffer.old }
 {
     let samples = check(sheet, rate)?;
-    wave::file::write_header(buffer, size, rate, samples as u32).map_err(
-        |_| Refusal::BufferTooShort,
-    )
+    let written = wave::file::write_header(buffer, size, rate, samples as u32);
+    written.map_err(|_| Refusal::BufferTooShort)
 }

@@ -73,17 +73,17 @@ pub returns : goal.returns
 returns c =
     let a = c.args in
     let passed = check_passed a.rate a.sheet _ c.in_ok-samples.ensures in
-    let h : MatchResult c.write_header.result (λ n. c.map_err.result ≡ Ok n) (λ w. IsErrAnd c.map_err.result (λ why. why ≡ BufferTooShort)) = search rules in
+    let h : MatchResult c.write_header-written.result (λ n. c.map_err.result ≡ Ok n) (λ w. IsErrAnd c.map_err.result (λ why. why ≡ BufferTooShort)) = search rules in
     ⊎_elim
     (λ o. let w = header_taken a.rate a.sheet a.buffer.now passed.0 o.0 in record {
       answer = o.1 ∙ sym w;
-      bytes = c.write_header.ensures.bytes
+      bytes = c.write_header-written.ensures.bytes
           ∙ header_put a.size a.rate _ a.buffer.now o.0
           ∙ ap (λ (m : ℕ). put a.buffer.now 0 (header a.size a.rate m)) passed.1
           ∙ sym (header_written_law a.rate a.sheet a.buffer.now a.size 44 w);
     })
     (λ o. let w = header_30 a.rate a.sheet a.buffer.now passed.0 o.0 in record {
       answer = o.1 ∙ sym w;
-      bytes = c.write_header.ensures.bytes ∙ not_headed a.size a.rate _ a.buffer.now o.0 ∙ sym (header_refused a.rate a.sheet a.buffer.now a.size 30 0 w);
+      bytes = c.write_header-written.ensures.bytes ∙ not_headed a.size a.rate _ a.buffer.now o.0 ∙ sym (header_refused a.rate a.sheet a.buffer.now a.size 30 0 w);
     })
-    (answers (length a.buffer.now) c.write_header.result c.map_err.result c.write_header.ensures.answer h)
+    (answers (length a.buffer.now) c.write_header-written.result c.map_err.result c.write_header-written.ensures.answer h)
