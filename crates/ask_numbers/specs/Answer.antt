@@ -1,16 +1,15 @@
 -- What a request is answered, by the definitions of the crates that are asked. Floats are bits, NaN's 0x7fc00000. Tags: 0 no such
 -- kind, 1 a value, 2 no number, 3 too long, 4 not a number, 5 negative, 6 too many. Assumes nothing.
-use Rattle.std.specs.Prelude.{ℕ, zero, suc, ◌+◌, ◌-◌, ◌*◌, ◌%◌, ◌^◌, Bool, true, false, not, List, ◌==◌, from_bits, slice_index, to_bits}
+use Rattle.std.specs.Prelude.{ℕ, zero, suc, ◌+◌, ◌-◌, ◌*◌, ◌%◌, ◌^◌, Bool, true, false, not, List, ◌==◌, from_bits, slice_index, to_bits, Float, Option, Some, None, Result, Ok, Err}
 use Rattle.std.specs.Float.{binary32}
-use Rattle.number.specs.declared.decimal.Decimal.{Decimal}
-use Rattle.number.specs.declared.decimal.Decimal.TheVariants.{Value, Unreadable, TooLong}
-use Rattle.number.specs.declared.digits.Int.{Int}
-use Rattle.number.specs.declared.digits.Int.TheVariants.{Number, Absent}
+use Rattle.text.specs.declared.parsed.Parsed.{Parsed}
+use Rattle.number.specs.declared.decimal.NoDecimal.{NoDecimal}
+use Rattle.number.specs.declared.decimal.NoDecimal.TheVariants.{Unreadable, TooLong}
 use Rattle.number.specs.Decimal.{decimal_at}
 use Rattle.number.specs.Digits.{int_at}
 use Rattle.sine.specs.Turn.{turn_sine}
-use Rattle.tone.specs.declared.time.Length.{Length}
-use Rattle.tone.specs.declared.time.Length.TheVariants.{Samples, NotANumber, Negative, TooMany}
+use Rattle.tone.specs.declared.time.Uncounted.{Uncounted}
+use Rattle.tone.specs.declared.time.Uncounted.TheVariants.{NotANumber, Negative, TooMany}
 use Rattle.tone.specs.Power.{frequency_of}
 use Rattle.tone.specs.Time.{duration_of, length_of}
 use Rattle.ask_numbers.specs.declared.answer.Answer.{Answer}
@@ -25,20 +24,20 @@ tagged t = record { tag = t; value = 0; place = 0 }
 abbrev pub valued : ℕ → Answer
 valued v = record { tag = 1; value = v; place = 0 }
 
-abbrev pub decimal_answer : Decimal → Answer
-decimal_answer (Value x next) = record { tag = 1; value = to_bits binary32 x; place = next }
-decimal_answer Unreadable = tagged 2
-decimal_answer TooLong = tagged 3
+abbrev pub decimal_answer : Result (Parsed Float) NoDecimal → Answer
+decimal_answer (Ok p) = record { tag = 1; value = to_bits binary32 p.value; place = p.next }
+decimal_answer (Err Unreadable) = tagged 2
+decimal_answer (Err TooLong) = tagged 3
 
-abbrev pub digits_answer : Int → Answer
-digits_answer (Number n next) = record { tag = 1; value = n; place = next }
-digits_answer Absent = tagged 2
+abbrev pub digits_answer : Option (Parsed ℕ) → Answer
+digits_answer (Some p) = record { tag = 1; value = p.value; place = p.next }
+digits_answer None = tagged 2
 
-abbrev pub length_answer : Length → Answer
-length_answer (Samples n) = valued n
-length_answer NotANumber = tagged 4
-length_answer Negative = tagged 5
-length_answer TooMany = tagged 6
+abbrev pub length_answer : Result ℕ Uncounted → Answer
+length_answer (Ok n) = valued n
+length_answer (Err NotANumber) = tagged 4
+length_answer (Err Negative) = tagged 5
+length_answer (Err TooMany) = tagged 6
 
 -- ---- the checksum over a run of sines
 

@@ -9,9 +9,10 @@ ghost use Rattle.ask_numbers.specs.Answer.{tagged, valued, decimal_answer, digit
 use crate::{request, sines};
 use fields::float;
 use fields::word::word;
-use number::decimal::{Decimal, eat_float};
-use number::digits::{Int, eat_int};
-use tone::time::{Length, sec_to_len};
+use number::decimal::{NoDecimal, eat_float};
+use number::digits::eat_int;
+use text::parsed::Parsed;
+use tone::time::{Uncounted, sec_to_len};
 
 // Tags: 0 no such kind, 1 a value, 2 no number, 3 too long, 4 not a number, 5 negative, 6 too many.
 #[derive(Clone, Copy)]
@@ -47,44 +48,44 @@ fn number(value: u64) -> Answer
 fn float_bits(x: f32) -> Answer
     ensures { result ≡ valued (to_bits binary32 x) }
 {
-    number(float::to_bits(x) as u64)
+    number(u64::from(float::to_bits(x)))
 }
 
-fn of_decimal(d: Decimal) -> Answer
-    ensures { result ≡ decimal_answer d }
+fn of_decimal(found: Result<Parsed<f32>, NoDecimal>) -> Answer
+    ensures { result ≡ decimal_answer found }
 {
-    match d {
-        Decimal::Value(x, next) => Answer {
+    match found {
+        Ok(x) => Answer {
             tag: 1,
-            value: float::to_bits(x) as u64,
-            place: next as u64,
+            value: u64::from(float::to_bits(x.value)),
+            place: x.next as u64,
         },
-        Decimal::Unreadable => plain(2),
-        Decimal::TooLong => plain(3),
+        Err(NoDecimal::Unreadable) => plain(2),
+        Err(NoDecimal::TooLong) => plain(3),
     }
 }
 
-fn of_int(n: Int) -> Answer
-    ensures { result ≡ digits_answer n }
+fn of_int(found: Option<Parsed<u64>>) -> Answer
+    ensures { result ≡ digits_answer found }
 {
-    match n {
-        Int::Number(value, next) => Answer {
+    match found {
+        Some(n) => Answer {
             tag: 1,
-            value,
-            place: next as u64,
+            value: n.value,
+            place: n.next as u64,
         },
-        Int::Absent => plain(2),
+        None => plain(2),
     }
 }
 
-fn of_length(l: Length) -> Answer
-    ensures { result ≡ length_answer l }
+fn of_length(length: Result<u64, Uncounted>) -> Answer
+    ensures { result ≡ length_answer length }
 {
-    match l {
-        Length::Samples(n) => number(n),
-        Length::NotANumber => plain(4),
-        Length::Negative => plain(5),
-        Length::TooMany => plain(6),
+    match length {
+        Ok(n) => number(n),
+        Err(Uncounted::NotANumber) => plain(4),
+        Err(Uncounted::Negative) => plain(5),
+        Err(Uncounted::TooMany) => plain(6),
     }
 }
 
@@ -106,7 +107,7 @@ fn sine(table: &[u32; 1025], s: &[u8]) -> Answer
     requires { (table.now ≡ quarter) × (length s.now ≡ 32) }
     ensures { result ≡ sine_for s.now }
 {
-    number(sines::sine_bits(table, word(s, 4)) as u64)
+    number(u64::from(sines::sine_bits(table, word(s, 4))))
 }
 
 fn frequency(s: &[u8]) -> Answer
@@ -143,34 +144,20 @@ fn sine_run(table: &[u32; 1025], s: &[u8]) -> Answer
 }
 
 // The answer to the request s.
+#[tactic(auto, unfolding(crate::specs::Answer::answer_to))]
 pub fn to(table: &[u32; 1025], s: &[u8]) -> Answer
     requires { (table.now ≡ quarter) × (length s.now ≡ 32) }
     ensures { result ≡ answer_to s.now }
 {
-    let kind = s[0];
-    if kind == 1 {
-        return decimal(s);
+    match s[0] {
+        1 => decimal(s),
+        2 => digits(s, u64::from(u32::MAX)),
+        3 => digits(s, u64::MAX),
+        4 => sine(table, s),
+        5 => frequency(s),
+        6 => duration(s),
+        7 => samples(s),
+        8 => sine_run(table, s),
+        _ => plain(0),
     }
-    if kind == 2 {
-        return digits(s, 0xffff_ffff);
-    }
-    if kind == 3 {
-        return digits(s, 0xffff_ffff_ffff_ffff);
-    }
-    if kind == 4 {
-        return sine(table, s);
-    }
-    if kind == 5 {
-        return frequency(s);
-    }
-    if kind == 6 {
-        return duration(s);
-    }
-    if kind == 7 {
-        return samples(s);
-    }
-    if kind == 8 {
-        return sine_run(table, s);
-    }
-    plain(0)
 }

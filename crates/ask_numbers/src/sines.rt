@@ -39,11 +39,8 @@ fn mix_lanes(sum: u64, values: &[f32; 32], n: u32) -> u64
     ensures { (result ≡ mixed_with sum values.now n) × (result < prime) }
 {
     let mut total = sum;
-    let mut j: u32 = 0;
-    while j < n {
-        let x = values[j as usize];
-        total = mix(total, float::to_bits(x));
-        j += 1;
+    for x in &values[..n as usize] {
+        total = mix(total, float::to_bits(*x));
     }
     total
 }
@@ -53,23 +50,9 @@ fn fill(values: &mut [f32; 32], pattern: u32)
     requires { length values.old ≡ 32 }
     ensures { LanesOf nan (float_from pattern) 32 values.old values.new }
 {
-    let mut next = pattern;
-    let mut j: usize = 0;
-    while j < 32 {
-        values[j] = float::of_bits(next);
-        next = std::num::wrapping_add_u32(next, 1);
-        j += 1;
+    for (j, x) in values.iter_mut().enumerate() {
+        *x = float::of_bits(pattern.wrapping_add(j as u32));
     }
-}
-
-// How many of so many patterns are asked for next.
-fn few(left: u32) -> u32
-    ensures { result ≡ min left 32 }
-{
-    if left < LANES {
-        return left;
-    }
-    LANES
 }
 
 // The checksum of the sines of `count` patterns from `start` on; the patterns wrap at 2^32. The sines are those of many
@@ -83,11 +66,11 @@ pub fn sines(table: &[u32; 1025], start: u32, count: u32) -> u64
     let mut pattern = start;
     let mut left = count;
     while left != 0 {
-        let n = few(left);
+        let n = left.min(LANES);
         fill(&mut values, pattern);
         sines_by(table, &mut values);
         sum = mix_lanes(sum, &values, n);
-        pattern = std::num::wrapping_add_u32(pattern, n);
+        pattern = pattern.wrapping_add(n);
         left -= n;
     }
     sum

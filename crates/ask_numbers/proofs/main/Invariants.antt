@@ -1,6 +1,5 @@
 -- `main` is safe and ends. Nothing has to hold from turn to turn: the table stays as it was made. The measure is how many turns are
 -- left. Assumes nothing.
-use Rattle.std.proofs.Common.{arith}
 use Rattle.ask_numbers.proofs.main.Given as goal
 
 abbrev pub invariant-loop-turns : goal.invariant-loop-turns

@@ -1,6 +1,6 @@
 -- `answer_all` puts answer after answer: what is still to be put makes the rest of the block. `out` keeps its length, and the measure
 -- is how many requests are left. Assumes nothing.
-use Rattle.std.proofs.Common.{◌≡◌, ℕ, suc, ◌+◌, ◌-◌, ◌*◌, ◌/◌, ◌≤◌, List, length, take, drop, refl, ap, ◌∙◌, arith, length-drop, length-take-le, rules}
+use Rattle.std.proofs.Common.{◌≡◌, ℕ, suc, ◌+◌, ◌-◌, ◌*◌, ◌/◌, List, take, drop, ap, ◌∙◌, arith, length-drop, length-take-le}
 use Rattle.io.proofs.Counting.{prefix_len_of_le}
 use Rattle.ask_numbers.specs.declared.answer.Answer.{Answer}
 use Rattle.ask_numbers.specs.Answer.{answer_to}
@@ -20,8 +20,8 @@ all_done requests out i k e = rw e
 
 pub loop-i-init : goal.loop-i-init
 loop-i-init c =
-    let e : c.least-n.result - 0 ≡ c.least-n.result = omega arith in
-    (omega arith, (omega arith, (omega arith, (refl, rw e))))
+    let e : c.min-n.result - 0 ≡ c.min-n.result = omega arith in
+    rw e
 
 pub to-a-requires : goal.to-a-requires
 to-a-requires c =
@@ -33,45 +33,26 @@ to-a-requires c =
 pub loop-i-preserved : goal.loop-i-preserved
 loop-i-preserved c =
     let s = c.args.requests.now in
-    let n = c.least-n.result in
+    let n = c.min-n.result in
     let l = c.loop-i in
     let t = c.to-a in
     let p = c.put in
     let i = l.i in
     let e : i * 32 + 32 - i * 32 ≡ 32 = omega arith in
-    let a : t.result ≡ answer_to (request_at s i) = t.ensures ∙ ap (λ (k : ℕ). answer_to (take k (drop (i * 32) s))) e in (
-      omega arith,
-      (
-        omega arith,
-        (
-          omega (arith, p.auto.out),
-          (
-            omega (arith, p.auto.out),
-            ap (λ (o : List ℕ). answered s o (i + 1) (n - (i + 1))) p.ensures
-                ∙ one_more s l.out t.result i (n - i) (n - (i + 1)) (omega arith) a
-                ∙ l.invariant.1.1.1.1,
-          ),
-        ),
-      ),
-    )
+    let a : t.result ≡ answer_to (request_at s i) = t.ensures ∙ ap (λ (k : ℕ). answer_to (take k (drop (i * 32) s))) e in
+    ap (λ (o : List ℕ). answered s o (i + 1) (n - (i + 1))) p.ensures
+    ∙ one_more s l.out t.result i (n - i) (n - (i + 1)) (omega arith) a
+    ∙ l.invariant
 
-pub returns-clause-prefix_len : goal.returns-clause-prefix_len
-returns-clause-prefix_len c =
-    let s = c.args.requests.now in
-    let n = c.least-n.result in
-    let l = c.loop-i in
-    let e : n * 16 / 16 ≡ n = omega arith in prefix_len_of_le (n * 16) l.out (omega arith)
+pub returns-clause-within : goal.returns-clause-within
+returns-clause-within c = prefix_len_of_le (c.min-n.result * 16) c.loop-i.out (omega arith)
 
-pub returns-clause-value : goal.returns-clause-value
-returns-clause-value c =
-    let s = c.args.requests.now in
-    let n = c.least-n.result in
-    let l = c.loop-i in
-    let e : n * 16 / 16 ≡ n = omega arith in ap (λ (k : ℕ). k * 16) c.least-n.ensures
+pub returns-clause-count : goal.returns-clause-count
+returns-clause-count c = ap (λ (k : ℕ). k * 16) c.min-n.ensures
 
-pub returns-clause-out_after : goal.returns-clause-out_after
-returns-clause-out_after c =
-    let s = c.args.requests.now in
-    let n = c.least-n.result in
+pub returns-clause-answers : goal.returns-clause-answers
+returns-clause-answers c =
+    let n = c.min-n.result in
     let l = c.loop-i in
-    let e : n * 16 / 16 ≡ n = omega arith in all_done s l.out l.i (n - l.i) (omega arith) ∙ rw e l.invariant.1.1.1.1
+    let e : n * 16 / 16 ≡ n = omega arith in
+    all_done c.args.requests.now l.out l.i (n - l.i) (omega arith) ∙ rw e l.invariant

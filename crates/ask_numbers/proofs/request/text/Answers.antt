@@ -1,5 +1,5 @@
 -- `text` is `text_of`: a length that the request does not hold takes all that there is. Assumes nothing.
-use Rattle.std.proofs.Common.{◌≡◌, ℕ, ◌+◌, ◌-◌, length, get_or, take, drop, sym, ap, ◌∙◌, arith, length-drop, take_all, rules}
+use Rattle.std.proofs.Common.{◌≡◌, ℕ, ◌+◌, ◌-◌, length, get_or, take, drop, sym, ap, ◌∙◌, arith, length-drop, take_all}
 use Rattle.ask_numbers.specs.Request.{text_of}
 use Rattle.ask_numbers.proofs.request.text.Goals as goal
 

@@ -1,8 +1,7 @@
 -- `sines` goes on from its sum over the patterns that are left, a block after the other (`Runs`), and what that gives never changes. The
 -- measure is how many patterns are left. Assumes nothing.
-use Rattle.std.proofs.Common.{◌≡◌, ◌^◌, ◌<◌, length, sym, refl, ap, ◌∙◌, arith, rules}
+use Rattle.std.proofs.Common.{◌≡◌, ◌^◌, ◌<◌, length}
 use Rattle.ask_numbers.specs.Answer.{prime, sines_from}
-use Rattle.ask_numbers.proofs.Runs.{mapped_size, goes_on, none_left}
 use Rattle.ask_numbers.proofs.sines.sines.Given as goal
 
 abbrev pub invariant-loop-left : goal.invariant-loop-left
