@@ -145,3 +145,12 @@ pub promised_unready : (book : Book) (line : ℕ) (text : List ℕ) (s : State) 
 promised_unready book line text s fs is ls e =
     let t = told_as s _ _ _ fs is ls (part_unready book line text s fs is ls e) (told_refused s 21 line fs is ls) in
     (t.0, (t.1, (λ x z. absurd (omega (arith, z)), λ f. (refl, (refl, refl)))))
+
+-- ---- columns that were lent and came back
+
+module _ (fs gs : List Float) (is js ls ms : List ℕ) (e : gs ≡ fs) (f : js ≡ is) (g : ms ≡ ls) where
+  pub held_back : (o : Outcome Progress) → Held o fs is ls → Held o gs js ms
+  held_back o h = rw (e, f, g) h
+
+  pub ready_back : (s : State) → Ready s fs is ls → Ready s gs js ms
+  ready_back s h = rw (e, f, g) h

@@ -10,6 +10,7 @@ use Rattle.columns.specs.Columns.{notes_in}
 use Rattle.tables.specs.Named.{macros_in, Macro}
 use Rattle.part.specs.declared.state.State.{State}
 use Rattle.part.specs.declared.state.Book.{Book as Lent}
+use Rattle.part.specs.declared.state.Columns.{Columns}
 use Rattle.part.specs.Body.{Progress, Book, with_notes}
 
 -- ---- loops
@@ -86,3 +87,9 @@ book_in rate s ms bs ns rs = book_of rate (macros_in s ms bs) (names_in s ns) rs
 -- the same of what is lent to the reader of bodies
 abbrev pub held : Lent → Book
 held b = book_in b.rate b.source.now b.macros.now b.bodies.now b.names.now b.releases.now
+
+-- the columns are still the ones that were lent
+abbrev pub SameColumns : Columns → Columns → Type 0
+SameColumns a b =
+    (b.floats.ghost_name ≡ a.floats.ghost_name)
+    × ((b.instruments.ghost_name ≡ a.instruments.ghost_name) × (b.loops.ghost_name ≡ a.loops.ghost_name))

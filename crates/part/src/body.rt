@@ -8,14 +8,14 @@ ghost use Rattle.sheet.specs.Capacities.{instruments_most};
 ghost use Rattle.sheet.specs.Refusals.{Outcome};
 ghost use Rattle.tables.specs.Named.{Macro};
 ghost use Rattle.part.specs.Body.{Progress, called, does, stepped, run, inside};
-ghost use Rattle.part.specs.Columns.{Ready, Becomes, progress_of, book_of, held};
+ghost use Rattle.part.specs.Columns.{Ready, Becomes, progress_of, book_of, held, SameColumns};
 ghost use Rattle.items.specs.Items.{items_of};
 ghost use Rattle.items.specs.Written.{item_of, is_call};
 
 use crate::command::{change, instrument};
 use crate::note::noted;
 use crate::open_loops::{closed, cut_here, opened};
-use crate::state::{Book, STEPS, State};
+use crate::state::{Book, Columns, STEPS, State};
 use items::item::{Item, is_call, item_at};
 use lines::names::place_named;
 use settings::command::{
@@ -29,33 +29,48 @@ use text::parsed::Parsed;
 fn done(
     book: &Book,
     text: &[u8],
-    floats: &mut [f32],
-    instruments: &mut [u8],
-    loops: &mut [usize],
+    columns: &mut Columns,
     st: State,
     line: usize,
     at: usize,
     next: usize,
     item: Item,
 ) -> State
-    requires ready { Ready st floats.old instruments.old loops.old }
+    requires ready { Ready st columns.old.floats.now columns.old.instruments.now columns.old.loops.now }
     requires few_releases { (length book.now.releases.now ≤ instruments_most) × (is_call item ≡ false) }
     requires places { (at ≤ next) × (next ≤ length text.now) }
-    ensures { (ms : List Macro) (inner : Macro → Progress → Outcome Progress) →
+    ensures becomes { (ms : List Macro) (inner : Macro → Progress → Outcome Progress) →
         let names = names_in book.now.source.now book.now.names.now in
         let named = book_of book.now.rate ms names book.now.releases.now in
-        let before = progress_of st floats.old instruments.old loops.old in
+        let before = progress_of st columns.old.floats.now columns.old.instruments.now columns.old.loops.now in
         let found = item_of text.now at next item in
-        Becomes (does named line inner found before) result floats.new instruments.new loops.new }
+        Becomes (does named line inner found before)
+        result columns.new.floats.now columns.new.instruments.now columns.new.loops.now }
+    ensures same { SameColumns columns.old columns.new }
 {
     let env = st.env;
     match item {
-        Item::Note(n) => noted(book.releases, floats, instruments, st, line, book.rate, n),
+        Item::Note(n) => noted(
+            book.releases,
+            columns.floats,
+            columns.instruments,
+            st,
+            line,
+            book.rate,
+            n,
+        ),
         Item::Up => change(st, line, Ok(env.octave_up())),
         Item::Down => change(st, line, Ok(env.octave_down())),
-        Item::Opening => opened(loops, st, line),
-        Item::Cut => cut_here(loops, st, line),
-        Item::Closing(n) => closed(floats, instruments, loops, st, line, n),
+        Item::Opening => opened(columns.loops, st, line),
+        Item::Cut => cut_here(columns.loops, st, line),
+        Item::Closing(n) => closed(
+            columns.floats,
+            columns.instruments,
+            columns.loops,
+            st,
+            line,
+            n,
+        ),
         Item::Octave(n) => change(st, line, octave_command(env, n)),
         Item::Value(n) => change(st, line, value_command(env, n)),
         Item::Tempo(n) => change(st, line, tempo_command(env, n)),
@@ -72,23 +87,22 @@ fn done(
 fn item(
     book: &Book,
     text: &[u8],
-    floats: &mut [f32],
-    instruments: &mut [u8],
-    loops: &mut [usize],
+    columns: &mut Columns,
     st: State,
     line: usize,
     at: usize,
     found: Parsed<Item>,
     nest: usize,
 ) -> State
-    requires ready { Ready st floats.old instruments.old loops.old }
+    requires ready { Ready st columns.old.floats.now columns.old.instruments.now columns.old.loops.now }
     requires few_releases { length book.now.releases.now ≤ instruments_most }
     requires places { (at ≤ found.next) × (found.next ≤ length text.now) }
-    ensures { let lent = held book.now in
-        let before = progress_of st floats.old instruments.old loops.old in
+    ensures becomes { let lent = held book.now in
+        let before = progress_of st columns.old.floats.now columns.old.instruments.now columns.old.loops.now in
         let this = item_of text.now at found.next found.value in
         Becomes (stepped lent line (inside lent nest line) this before)
-        result floats.new instruments.new loops.new }
+        result columns.new.floats.now columns.new.instruments.now columns.new.loops.now }
+    ensures same { SameColumns columns.old columns.new }
 {
     let steps = st.steps;
     if steps >= STEPS {
@@ -101,20 +115,9 @@ fn item(
     let Parsed { value: kind, next } = found;
     if is_call(kind) {
         let name = &text[at..next];
-        return call(book, floats, instruments, loops, s, line, name, nest);
+        return call(book, columns, s, line, name, nest);
     }
-    done(
-        book,
-        text,
-        floats,
-        instruments,
-        loops,
-        s,
-        line,
-        at,
-        next,
-        kind,
-    )
+    done(book, text, columns, s, line, at, next, kind)
 }
 
 // A macro call: refused where no macro has the name, or where no nested call is left. The macro's body is a part of the
@@ -122,20 +125,19 @@ fn item(
 #[cycle(body_call_item)]
 fn call(
     book: &Book,
-    floats: &mut [f32],
-    instruments: &mut [u8],
-    loops: &mut [usize],
+    columns: &mut Columns,
     st: State,
     line: usize,
     name: &[u8],
     nest: usize,
 ) -> State
-    requires ready { Ready st floats.old instruments.old loops.old }
+    requires ready { Ready st columns.old.floats.now columns.old.instruments.now columns.old.loops.now }
     requires few_releases { length book.now.releases.now ≤ instruments_most }
-    ensures { let lent = held book.now in
-        let before = progress_of st floats.old instruments.old loops.old in
+    ensures becomes { let lent = held book.now in
+        let before = progress_of st columns.old.floats.now columns.old.instruments.now columns.old.loops.now in
         Becomes (called lent line (inside lent nest line) name.now before)
-        result floats.new instruments.new loops.new }
+        result columns.new.floats.now columns.new.instruments.now columns.new.loops.now }
+    ensures same { SameColumns columns.old columns.new }
 {
     let Book {
         source,
@@ -157,7 +159,7 @@ fn call(
     let to = end.min(source.len());
     let from = begin.min(to);
     let text = &source[from..to];
-    body(book, text, floats, instruments, loops, st, own, nest - 1)
+    body(book, text, columns, st, own, nest - 1)
 }
 
 // The items of a text one after the other, up to its end, a `;` or a refusal.
@@ -165,19 +167,18 @@ fn call(
 pub(crate) fn body(
     book: &Book,
     text: &[u8],
-    floats: &mut [f32],
-    instruments: &mut [u8],
-    loops: &mut [usize],
+    columns: &mut Columns,
     st: State,
     line: usize,
     nest: usize,
 ) -> State
-    requires ready { Ready st floats.old instruments.old loops.old }
+    requires ready { Ready st columns.old.floats.now columns.old.instruments.now columns.old.loops.now }
     requires few_releases { length book.now.releases.now ≤ instruments_most }
-    ensures { let lent = held book.now in
-        let before = progress_of st floats.old instruments.old loops.old in
+    ensures becomes { let lent = held book.now in
+        let before = progress_of st columns.old.floats.now columns.old.instruments.now columns.old.loops.now in
         Becomes (run lent line (inside lent nest line) (items_of text.now) before)
-        result floats.new instruments.new loops.new }
+        result columns.new.floats.now columns.new.instruments.now columns.new.loops.now }
+    ensures same { SameColumns columns.old columns.new }
 {
     let mut s = st;
     let mut at = 0;
@@ -191,18 +192,7 @@ pub(crate) fn body(
         }
         let found = item_at(text, from);
         let next = found.next;
-        s = item(
-            book,
-            text,
-            floats,
-            instruments,
-            loops,
-            s,
-            line,
-            from,
-            found,
-            nest,
-        );
+        s = item(book, text, columns, s, line, from, found, nest);
         if s.refusal != 0 {
             return s;
         }

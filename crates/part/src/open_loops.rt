@@ -46,20 +46,21 @@ pub(crate) fn cut_here(loops: &mut [usize], st: State, line: usize) -> State
     st
 }
 
-// `]` with its count: all passes of the innermost open loop. The count may be 2^64 - 1: it is asked whether the notes
-// fit before one is laid down, and a loop without notes closes at once.
+// `]` with its count: all passes of the innermost open loop, whose column is lent as the others are and stays as it is.
+// The count may be 2^64 - 1: it is asked whether the notes fit before one is laid down, and a loop without notes closes
+// at once.
 pub(crate) fn closed(
     floats: &mut [f32],
     instruments: &mut [u8],
-    loops: &[usize],
+    loops: &mut [usize],
     st: State,
     line: usize,
     times: Option<Parsed<u64>>,
 ) -> State
-    requires { (st.refusal ≡ 0) × (Room st floats.old instruments.old × Deep st loops.now) }
+    requires { (st.refusal ≡ 0) × (Room st floats.old instruments.old × Deep st loops.old) }
     ensures { (book : Book) →
-        let before = progress_of st floats.old instruments.old loops.now in
-        Becomes (closedIs book line (digit_run times) before) result floats.new instruments.new loops.now }
+        let before = progress_of st floats.old instruments.old loops.old in
+        Becomes (closedIs book line (digit_run times) before) result floats.new instruments.new loops.new }
 {
     let d = st.depth;
     if d == 0 {

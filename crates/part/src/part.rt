@@ -7,7 +7,7 @@ ghost use Rattle.part.specs.Columns.{Ready, Becomes, book_in};
 ghost use Rattle.part.specs.Reading.{is_ready, part_in, state_after, Held};
 
 use crate::body::body;
-use crate::state::{Book, NOTES, OPEN_LOOPS, State};
+use crate::state::{Book, Columns, NOTES, OPEN_LOOPS, State};
 use environment::environment::Environment;
 use sheet::refusal::Refusal;
 
@@ -94,15 +94,11 @@ pub fn read_part(
         releases,
         rate,
     };
-    let r = body(
-        &book,
-        text,
+    let mut columns = Columns {
         floats,
         instruments,
         loops,
-        st,
-        line,
-        NESTED_CALLS,
-    );
+    };
+    let r = body(&book, text, &mut columns, st, line, NESTED_CALLS);
     settled(st, r)
 }

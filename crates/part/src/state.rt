@@ -41,8 +41,8 @@ impl State {
     }
 }
 
-// What a body is read in: the source, in which the tables of macros' names, of their bodies and of instruments' names have
-// their places, the instruments' releases, and the rate at which notes are counted in samples.
+// What a body is read in: the source, in which the tables of macros' names, of their bodies and of instruments' names
+// have their places, the instruments' releases, and the rate at which notes are counted in samples.
 #[derive(Clone, Copy)]
 pub(crate) struct Book<'a> {
     pub source: &'a [u8],
@@ -51,4 +51,12 @@ pub(crate) struct Book<'a> {
     pub names: &'a [usize],
     pub releases: &'a [f32],
     pub rate: u32,
+}
+
+// The columns of a part: three numbers for each note, a byte for its instrument, and two places for each open loop.
+#[derive(Drop)]
+pub(crate) struct Columns<'a> {
+    pub floats: &'a mut [f32],
+    pub instruments: &'a mut [u8],
+    pub loops: &'a mut [usize],
 }
