@@ -45,7 +45,7 @@ unfolding instrument_passes
 no_number = refl
 
 minus_zero_law : instrument_passes (released minus_zero) ≡ true
-unfolding instrument_passes
+unfolding instrument_passes all
 minus_zero_law = refl
 
 minus_zero_lasts : note_passes 44100 (released minus_zero ∷ []) (lasting minus_zero) ≡ true
@@ -70,11 +70,11 @@ fed_back n =
     }
 
 within : instrument_passes (fed_back 255) ≡ true
-unfolding instrument_passes slot_passes command_passes
+unfolding instrument_passes all slot_passes command_passes
 within = refl
 
 past : instrument_passes (fed_back 256) ≡ false
-unfolding instrument_passes slot_passes command_passes
+unfolding instrument_passes all slot_passes command_passes
 past = refl
 
 -- ---- odd, and legal
@@ -89,12 +89,12 @@ first = released plus_zero
 odd_notes : all (note_passes 44100 (first ∷ []))
     (sounding nan one ∷ sounding one nan ∷ sounding (inf false) one ∷ sounding (inf true) one ∷ sounding one (inf false) ∷ sounding one (inf true) ∷ sounding nan nan ∷ [])
     ≡ true
-unfolding note_passes releases_of is_counted sounding_of length_of count_of add mul of_int round
+unfolding all note_passes releases_of is_counted sounding_of length_of count_of add mul of_int round
 odd_notes = refl
 
 -- the largest number that a `usize` holds
 stacked : instrument_passes (record { release = plus_zero; commands = record { command = Command.Stack 18446744073709551615 } ∷ []; count = 1 }) ≡ true
-unfolding instrument_passes slot_passes command_passes
+unfolding instrument_passes all slot_passes command_passes
 stacked = refl
 
 -- a sheet of one part and one note, with two instruments; the note is the first one's

@@ -33,10 +33,12 @@ module _ {A : Type 0} (test : A → Bool) (counts : List ℕ) (parts : ℕ) (xs 
       ∙ ap₂ (λ (u v : List A). all test u && all test (take rest v)) (part_taken xs n c m stop k f e) (part_left xs n c m stop k f e)
 
   pub played_ends : (p n stop : ℕ) → n ≡ stop → played_in p n stop ≡ played_from (p + 1) n
+  unfolding all
   played_ends p n stop e = ap (λ (s : ℕ). played_in p n s) (sym e) ∙ ap (λ (ys : List A). all test ys && played_from (p + 1) n) (slice_empty n xs)
 
   -- behind the last part nothing comes
   pub played_all : (p n : ℕ) → p ≡ parts → played_from p n ≡ true
+  unfolding all
   played_all p n e = ap (λ (t : ℕ). all test (take t (drop n xs))) (total_end counts parts p e)
 
   module _ (p n stop : ℕ) (d : A) (whole b : Bool) (h : n < stop) (l : stop ≤ length xs) (g : played_in p n stop ≡ whole) (t : b ≡ test (get_or xs n d)) where

@@ -12,6 +12,7 @@ use Rattle.handed.specs.Check.{all}
 module _ {A : Type 0} (test : A → Bool) (xs : List A) (m : ℕ) where
   module _ (k : ℕ) (d : A) (whole b : Bool) (h : k < m) (l : m ≤ length xs) (g : all test (slice k m xs) ≡ whole) (t : b ≡ test (get_or xs k d)) where
     next : all test (slice k m xs) ≡ (b && all test (slice (k + 1) m xs))
+    unfolding all
     next = ap (all test) (slice-cons k m xs d h l) ∙ ap (λ (j : ℕ). test (get_or xs k d) && all test (slice j m xs)) (sym (add-one k)) ∙ rw t
 
     pub scan_fails : b ≡ false → false ≡ whole
@@ -21,4 +22,5 @@ module _ {A : Type 0} (test : A → Bool) (xs : List A) (m : ℕ) where
     scan_more f = sym (next ∙ rw f) ∙ g
 
   pub scan_end : (k : ℕ) (whole : Bool) → k ≡ m → all test (slice k m xs) ≡ whole → true ≡ whole
+  unfolding all
   scan_end k whole e g = sym (ap (all test) (slice_empty m xs)) ∙ ap (λ (j : ℕ). all test (slice j m xs)) (sym e) ∙ g

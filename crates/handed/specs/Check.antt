@@ -18,7 +18,7 @@ use Rattle.sheet.specs.Lengths.{sounding_of, is_counted}
 use Rattle.sheet.specs.Parts.{counts_of, total, instruments_of, releases_of, length_of}
 
 -- every element of a list passes a test
-abbrev pub all : {A : Type 0} → (A → Bool) → List A → Bool
+unfoldable pub all : {A : Type 0} → (A → Bool) → List A → Bool
 all test xs = list_all test xs
 
 -- a command is not one of "feedback over 255"
@@ -32,7 +32,7 @@ slot_passes s = command_passes s.command
 
 -- an instrument: "commands 64 in a sheet handed in", its release a time, and each command that it counts
 unfoldable pub instrument_passes : Instrument → Bool
-unfolding slot_passes
+unfolding all slot_passes
 instrument_passes i = leb i.count commands_most && (is_time i.release && all slot_passes (take i.count i.commands))
 
 -- a note: its instrument is one of the sheet's, its duration a time, and "One note with its release 16,777,216 samples"
@@ -43,7 +43,7 @@ note_passes rate is n =
 
 -- a sheet: its counts within the capacities, its instruments, the notes of its parts, and "a sheet 2,000,000,000"
 unfoldable pub is_sheet : ℕ → Sheet → Bool
-unfolding total instrument_passes note_passes length_of
+unfolding total all instrument_passes note_passes length_of
 is_sheet rate s =
     leb s.parts parts_most
     && (leb s.instruments instruments_most
@@ -61,7 +61,7 @@ counted_if passes n = elim passes as (λ b. Result ℕ Refusal) [ true ↦ Ok n 
 
 -- the length of a sheet whose notes pass
 unfoldable pub walked_of : ℕ → Sheet → Result ℕ Refusal
-unfolding note_passes total length_of
+unfolding all note_passes total length_of
 walked_of rate s = counted_if (all (note_passes rate (instruments_of s)) (take (total (counts_of s)) s.notes)) (length_of rate s)
 
 -- how many samples a sheet has that passes, and refusal 28 for one that does not

@@ -3,7 +3,7 @@ use Rattle.std.proofs.Common.{take, rules, tests}
 use Rattle.std.proofs.lemmas.Iterator.{YieldsList-from_slice}
 use Rattle.std.proofs.lemmas.Iterator.Search.{all_from_yields_List}
 use lib.Ieee.{of_bits}
-use Rattle.handed.specs.Check.{slot_passes}
+use Rattle.handed.specs.Check.{all, slot_passes}
 use Rattle.handed.proofs.Instruments.{many, endless, commanded}
 use Rattle.handed.proofs.check.instrument_passes.Goals as goal
 
@@ -15,7 +15,7 @@ unfolding of_bits
 returns-then-not-by c = endless _ c.if-by-gt-COMMANDS_MOST.false c.if-not-by.true
 
 pub returns : goal.returns
-unfolding of_bits slot_passes
+unfolding of_bits all slot_passes
 returns c =
     let i = c.args.by.now in
     commanded i c.if-by-gt-COMMANDS_MOST.false c.if-not-by.false c.all.result

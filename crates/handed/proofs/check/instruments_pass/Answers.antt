@@ -7,6 +7,7 @@ use Rattle.handed.proofs.Cuts.{take_cut}
 use Rattle.handed.proofs.check.instruments_pass.Goals as goal
 
 pub returns : goal.returns
+unfolding all
 returns c =
     let s = c.args.sheet in
     all_from_yields_List instrument_passes _ _ c.all.result c.all.ensures.ran (YieldsList-from_slice (take c.min-most.result s.table) (cc)) (λ x b q k. search (rules, tests))
