@@ -16,7 +16,7 @@ use Rattle.sheet.specs.declared.refusal.Refusal.{Refusal}
 use Rattle.sheet.specs.Refusals.{going}
 use Rattle.sheet.proofs.Outcomes.{going_same, refused_same, going_apart}
 use Rattle.strict.specs.declared.mode.Mode.{Mode}
-use Rattle.operators.proofs.Numbers.{number_same}
+use Rattle.sheet.proofs.Answers.{number_same}
 use Rattle.blocks.specs.declared.block.Block.{Block}
 use Rattle.blocks.specs.Blocks.{lines_in, block_read, first_read, block_outcome}
 use Rattle.blocks.proofs.Kept.{lines_length}

@@ -9,7 +9,7 @@ use Rattle.sheet.specs.declared.refusal.Refusal.{Refusal}
 use Rattle.sheet.proofs.Outcomes.{going_same, refused_same, going_apart}
 use Rattle.operators.specs.declared.line.OperatorLine.{OperatorLine}
 use Rattle.operators.specs.Answers.{outcome_of}
-use Rattle.operators.proofs.Numbers.{number_same}
+use Rattle.sheet.proofs.Answers.{number_same}
 
 the_line : ℕ → Operator → OperatorLine
 the_line i o = record { indent = i; operator = o }

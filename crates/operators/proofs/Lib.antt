@@ -1,6 +1,5 @@
 pub mod Answers
 pub mod Examples
 pub mod Indents
-pub mod Numbers
 pub mod Pieces
 pub mod Steps
