@@ -3,11 +3,8 @@
 use mathlib.Core.Path.{◌≡◌, refl, sym, ap, ap₂, ◌∙◌, subst}
 use mathlib.Core.Logic.{inl, inr}
 use mathlib.Core.Bool.{Bool, false, cond}
-use Prim.Native.Nat.compare
-use Prim.Native.Nat.{Ordering}
-use Prim.Native.Nat.{ℕ, zero, suc, ◌+◌, ◌-◌, ◌*◌, ◌/◌, ◌%◌, ◌^◌, ◌≤◌, ◌<◌, compare}
-use native.Mathlib.Numerals.{add-one}
-use native.Mathlib.Nat.{le_of_suc-le-suc, not-suc-le-zero, le_trans, le_of_eq, lt_of_lt_of_le, lt_of_le_of_lt, lt_of_not-le, not-le_of_lt, zero-add, mul_comm, mul_assoc, mul-pos, mul-le-mul, mul-div_cancel, lt_of_mul-lt-mul_right, div-lt_iff_lt-mul, le-div_iff_mul-le, div-div-eq-div-mul, eq-or-lt_of_le, pow-suc, suc-add, lt-suc_self, add-sub_of_le}
+use Prim.Native.Nat.{ℕ, suc, ◌+◌, ◌-◌, ◌*◌, ◌/◌, ◌%◌, ◌^◌, ◌≤◌, ◌<◌, compare}
+use native.Mathlib.Nat.{le_trans, le_of_eq, lt_of_lt_of_le, lt_of_le_of_lt, lt_of_not-le, not-le_of_lt, zero-add, mul_comm, mul_assoc, mul-pos, mul-le-mul, mul-div_cancel, div-lt_iff_lt-mul, le-div_iff_mul-le, div-div-eq-div-mul, eq-or-lt_of_le, pow-suc, suc-add, lt-suc_self, add-sub_of_le}
 use native.Mathlib.Omega.{arith}
 use lib.Dec.{lit<}
 use lib.Arith.{digits_div, digits_mod}
@@ -19,34 +16,6 @@ use lib.Ieee.Fits.{core, round_is, round-fits, down_pos, nearest-le}
 use lib.Ieee.Nearest.{closest, closest_same, div_same, nearest-ge}
 use lib.Ieee.Bits.{of_bits-to_bits, nan_bits_is}
 use lib.Ieee.Scale.{round_same}
-
--- ---- what the comparison of the doubled rest with the divisor does
-compare_lt : (a b : ℕ) → a < b → compare a b ≡ Ordering.lt
-compare_lt zero zero h = absurd (not-suc-le-zero h)
-compare_lt zero (suc b) h = compare.zero-suc b
-compare_lt (suc a) zero h = absurd (not-suc-le-zero h)
-compare_lt (suc a) (suc b) h = compare.suc-suc a b ∙ compare_lt a b (le_of_suc-le-suc h)
-
-compare_gt : (a b : ℕ) → b < a → compare a b ≡ Ordering.gt
-compare_gt zero b h = absurd (not-suc-le-zero h)
-compare_gt (suc a) zero h = compare.suc-zero a
-compare_gt (suc a) (suc b) h = compare.suc-suc a b ∙ compare_gt a b (le_of_suc-le-suc h)
-
-compare_same : (a : ℕ) → compare a a ≡ Ordering.eq
-compare_same zero = compare.zero-zero
-compare_same (suc a) = compare.suc-suc a a ∙ compare_same a
-
--- below a half, down
-pub nearest_down : (q a b : ℕ) → a < b → q ≡ nearest q (compare a b)
-nearest_down q a b h = sym (ap (nearest q) (compare_lt a b h))
-
--- above a half, up
-pub nearest_up : (q a b : ℕ) → b < a → q + 1 ≡ nearest q (compare a b)
-nearest_up q a b h = add-one q ∙ sym (ap (nearest q) (compare_gt a b h))
-
--- at a half, to the even one
-pub nearest_tie : (q a b : ℕ) → a ≡ b → q + q % 2 ≡ nearest q (compare a b)
-nearest_tie q a b e = sym (ap (nearest q) (ap (λ (x : ℕ). compare x b) e ∙ compare_same b))
 
 -- ---- how many digits a scaled number has
 
@@ -176,10 +145,6 @@ module _ (f : Format) (p a b k : ℕ) (digits : prec f ≡ suc p) (bp : 0 < b) (
       ∙ finite (units f false (closest a b) k) (closest a b * 2 ^ k) (2 ^ low f) (units_val f false (closest a b) k fine)
 
 -- ---- at f32, as the code has it: n / d lies from 1 up to 2, q and r are its long division to 23 places, and m is q rounded
-
--- the quotient has 24 digits
-pub quotient_small : (n d q r : ℕ) → n * 2 ^ 23 ≡ q * d + r → n < 2 * d → q < 2 ^ 24
-quotient_small n d q r e h = lt_of_mul-lt-mul_right d (omega arith)
 
 in_range_law : (q k : ℕ) → q ≤ 2 ^ 24 → k ≤ 200 → q * 2 ^ k < 2 ^ 277
 in_range_law q k h g = lt_of_le_of_lt (mul-le-mul h (pow_mono g)) (lit< tt)
