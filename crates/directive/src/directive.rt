@@ -13,6 +13,7 @@ use keys::key::{Key, key_at};
 use lines::names::{NameAt, name_at};
 use number::digits::eat_int;
 use sheet::refusal::Refusal;
+use sheet::sheet::PARTS_MOST;
 use strict::mode::{Mode, has_tail};
 use text::blanks::{blanks_end, ink_end};
 use text::characters::same_text;
@@ -123,12 +124,12 @@ pub fn apply(d: Result<Directive, Refusal>, env: Environment) -> Environment
     }
 }
 
-// The environments of parts with a directive carried out on each of the first n, at most 16 of them.
+// The environments of parts with a directive carried out on each of the first n.
 pub fn apply_to_parts(
     d: Result<Directive, Refusal>,
-    mut envs: [Environment; 16],
+    mut envs: [Environment; PARTS_MOST],
     n: usize,
-) -> [Environment; 16]
+) -> [Environment; PARTS_MOST]
     ensures { result ≡ applied_to d n envs }
 {
     let most = n.min(envs.len());
