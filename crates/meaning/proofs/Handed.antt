@@ -54,7 +54,7 @@ module _ (mode : Mode) (rate : ℕ) where
   Good = Whole rate
 
   begins : Good nothing_read
-  unfolding nothing_read notes_of
+  unfolding nothing_read all notes_of
   begins =
       record {
         named = refl;
@@ -194,5 +194,5 @@ module _ (mode : Mode) (rate : ℕ) where
 
   -- the empty sheet of a refusal passes too
   pub empty_passes : is_sheet rate (sheet_of [] []) ≡ true
-  unfolding is_sheet sheet_of padded total length_of
+  unfolding is_sheet sheet_of padded total all length_of
   empty_passes = refl

@@ -142,7 +142,7 @@ release_time x (l ∷ ls) h k = release_time (larger x l.op.release) ls (larger_
 -- ---- their commands
 
 outdent_passes : (before : Option ℕ) (i : ℕ) → all command_passes (outdent before i) ≡ true
-unfolding outdent command_passes
+unfolding outdent all command_passes
 outdent_passes none i = refl
 outdent_passes (some b) i = go (ltb i b)
   where
@@ -151,22 +151,23 @@ outdent_passes (some b) i = go (ltb i b)
     go false = refl
 
 downward_passes : (before : Option ℕ) (ls : List Line) → AllLast ls → all command_passes (downward before ls) ≡ true
-unfolding downward command_passes
+unfolding downward all command_passes
 downward_passes before [] k = refl
 downward_passes before (l ∷ ls) k =
     all_both command_passes (outdent before l.indent) (Command.Operator l.op ∷ downward (some l.indent) ls) (outdent_passes before l.indent)
     (rw (le-leb l.op.feedback feedback_most k.0.feedback) (downward_passes (some l.indent) ls k.1))
 
 all_turned : {A : Type 0} (test : A → Bool) (xs ys : List A) → all test xs ≡ true → all test ys ≡ true → all test (reverse_aux xs ys) ≡ true
+unfolding all
 all_turned test [] ys e f = f
 all_turned test (x ∷ xs) ys e f = let b = both (test x) (all test xs) e in all_turned test xs (x ∷ ys) b.1 (rw b.0 f)
 
 commands_pass : (ls : List Line) → AllLast ls → all command_passes (commands_of ls) ≡ true
-unfolding commands_of
+unfolding commands_of all
 commands_pass ls k = all_turned command_passes (downward none ls) [] (downward_passes none ls k) refl
 
 slots_pass : (cs : List Command) → all command_passes cs ≡ true → all slot_passes (map (λ (c : Command). record { command = c }) cs) ≡ true
-unfolding slot_passes
+unfolding all slot_passes
 slots_pass [] e = refl
 slots_pass (c ∷ cs) e = let b = both (command_passes c) (all command_passes cs) e in rw b.0 (slots_pass cs b.1)
 

@@ -36,25 +36,29 @@ module _ {A : Type 0} (test : A → Bool) where
   all_apart xs ys e = both (all test xs) (all test ys) (sym (all_append test xs ys) ∙ e)
 
   pub all_one : (x : A) → test x ≡ true → all test (x ∷ []) ≡ true
+  unfolding all
   all_one x e = rw e refl
 
   all_take : (n : ℕ) (xs : List A) → all test xs ≡ true → all test (take n xs) ≡ true
+  unfolding all
   all_take zero xs e = refl
   all_take (suc n) [] e = refl
   all_take (suc n) (x ∷ xs) e = let b = both (test x) (all test xs) e in rw b.0 (all_take n xs b.1)
 
   all_drop : (n : ℕ) (xs : List A) → all test xs ≡ true → all test (drop n xs) ≡ true
+  unfolding all
   all_drop zero xs e = e
   all_drop (suc n) [] e = refl
   all_drop (suc n) (x ∷ xs) e = all_drop n xs (both (test x) (all test xs) e).1
 
   all_copies : (n : ℕ) (xs : List A) → all test xs ≡ true → all test (copies n xs) ≡ true
-  unfolding copies
+  unfolding all copies
   all_copies zero xs e = refl
   all_copies (suc n) xs e = all_both xs (copies n xs) e (all_copies n xs e)
 
 -- where one test passes wherever another does
 pub all_weaker : {A : Type 0} (test other : A → Bool) → ((x : A) → test x ≡ true → other x ≡ true) → (xs : List A) → all test xs ≡ true → all other xs ≡ true
+unfolding all
 all_weaker test other f [] e = refl
 all_weaker test other f (x ∷ xs) e = let b = both (test x) (all test xs) e in rw (f x b.0) (all_weaker test other f xs b.1)
 

@@ -77,7 +77,7 @@ module _ (name : List ℕ) where
 
     -- and with one whose notes pass, all do
     with_all : (w : Part) (ps : List NamedPart) → all test w.notes ≡ true → all test (notes_of ps) ≡ true → all test (notes_of (with_part_named name w ps)) ≡ true
-    unfolding with_part_named notes_of
+    unfolding with_part_named notes_of all
     with_all w [] h e = all_both test w.notes [] h refl
     with_all w (p ∷ ps) h e =
         let a = all_apart test p.part.notes (notes_of ps) e in go (same name p.name) a.0 a.1 (with_all w ps h a.1)
@@ -103,7 +103,7 @@ record Begun (test : Note → Bool) (name : List ℕ) (ps : List NamedPart) (v :
 
 begun : (test : Note → Bool) (name : List ℕ) (ps : List NamedPart) (start : Environment) (line : ℕ) → Filled test ps → (o : Option Part) → Own name test o
     → ((w : Part) → Sized o ps (with_part_named name w ps) w) → Holds (Begun test name ps) (part_of start line ps o)
-unfolding part_of
+unfolding part_of all
 begun test name ps start line g none i s =
     holds_unless _ _ _ _ _
     (λ e. holds_going (Begun test name ps) _
