@@ -1,49 +1,113 @@
 -- Lanes: a loop that gives one lane after the other its value, the list that all lanes make, and the steps of the sine one after
 -- the other. Assumes nothing.
-use Rattle.std.proofs.Common.{◌≡◌, ℕ, zero, suc, ◌+◌, ◌-◌, ◌*◌, ◌/◌, ◌%◌, ◌^◌, ◌<◌, ◌≤◌, Bool, true, false, not, ◌&&◌, T, eqb, leb, List, ◌++◌, map, length, get_or, take, drop, set, sym, refl, ap, ◌∙◌, subst, ⊎_elim, le_refl, eq-or-lt_of_le, add-one, arith, eqb→eq, leb→le, length-append, length-drop, length-set, length-take-le, get_or-drop, get_or-set_other, get_or-take, get_or-set_same, get_or-append-add, ext_get_or, pow_pos, pow-add, eq-eqb, ne_eqb, eqb-true, le-leb}
-use borrow.Author.Tests.{eqb-false, lt-leb}
+use Rattle.std.proofs.Common.{◌≡◌, ℕ, ◌+◌, ◌-◌, ◌*◌, ◌/◌, ◌%◌, ◌^◌, ◌<◌, ◌≤◌, Bool, true, false, not, ◌&&◌, T, ltb, List, ◌++◌, map, length, get_or, take, drop, set, sym, refl, ap, ◌∙◌, subst, ⊎_elim, le_refl, eq-or-lt_of_le, arith, length-append, length-drop, length-set, length-take-le, get_or-drop, get_or-set_other, get_or-take, get_or-set_same, get_or-append-add, ext_get_or, ltb-true, ltb-false, pow_pos, pow-add}
+use mathlib.Core.Bool.{true≢false}
+use Rattle.std.proofs.Math.ListN.{get_or-eq_default}
+use Rattle.std.proofs.lemmas.List.{get_or_default}
 use lib.ListN.{length-map, get_or-append, get_or-map}
 use lib.Ieee.{Float, nan, binary32, is_nan, fits, of_bits, to_bits}
 use lib.Ieee.Bits.{is_false, of_bits-to_bits}
-use lib.Ieee.Fits.{and_l, and_r}
 use lib.Ieee.Nearest.{div_same}
 use Rattle.sine.specs.Turn.{C, folded, height, sine_at, turn_sine_by}
 use Rattle.sine.specs.Phase.{field_of, position_of}
-use Rattle.sine.specs.Lanes.{LanesOf, FieldsAre, FoldsEnd, LanesAlike, has_field, having, alike, pattern_of, position_at, fold_at, height_at, signed_of, signed_at, turn_sine_at}
-use Rattle.sine.proofs.Heights.{folded_le}
+use Rattle.sine.specs.Lanes.{AllPass, LanesBy, LanesOf, pattern_of, signed_of, turn_sine_at}
 use Rattle.sine.proofs.Phase.{position_some, bits_under}
 use Rattle.sine.proofs.Sine.{sine_not_finite}
 
 -- ---- lane after lane
 
--- what holds of the first j numbers and of the next holds of one more
-pub for_more : (P : ℕ → Type 0) (j : ℕ) → ((k : ℕ) → k < j → P k) → P j → (k : ℕ) → k < j + 1 → P k
-for_more P j f p k l = ⊎_elim {C = P k} (λ q. subst P (sym q) p) (λ q. f k q) (eq-or-lt_of_le {n = k} {m = j} (omega arith))
-
-module _ {A : Type 0} {none : A} (h : ℕ → A → A) where
+module _ {A : Type 0} (gives : ℕ → A → A → Type 0) (none : A) where
   -- no lane yet
-  pub lanes_none : (xs : List A) → LanesOf none h 0 xs xs
+  pub lanes_none : (xs : List A) → LanesBy gives none 0 xs xs
   lanes_none xs = record { done = λ j l. absurd (omega arith); kept = λ j l. refl; size = refl }
 
-  -- one more lane
-  pub lanes_more : (j : ℕ) (xs ys : List A) (y : A) → j < length xs → LanesOf none h j xs ys → y ≡ h j (get_or ys j none) → LanesOf none h (j + 1) xs (set ys j y)
-  lanes_more j xs ys y l r e =
+  -- one more lane, by what it has, whatever a list has past its end
+  pub lanes_more : (j : ℕ) (xs ys : List A) (d y : A) → j < length xs → LanesBy gives none j xs ys → gives j (get_or ys j d) y
+      → LanesBy gives none (j + 1) xs (set ys j y)
+  lanes_more j xs ys d y l r e =
       record {
         done =
-            for_more (λ m. get_or (set ys j y) m none ≡ h m (get_or xs m none)) j
-            (λ m p. get_or-set_other ys j m y none (λ (w : m ≡ j). omega arith) ∙ r.done m p)
-            (get_or-set_same ys j y none (omega (arith, r.size)) ∙ e ∙ ap (h j) (r.kept j (le_refl _)));
+            λ m p. ⊎_elim {C = gives m (get_or xs m none) (get_or (set ys j y) m none)}
+            (λ q. subst (λ (k : ℕ). gives k (get_or xs k none) (get_or (set ys j y) k none)) (sym q) here)
+            (λ q. subst (gives m (get_or xs m none)) (sym (get_or-set_other ys j m y none (λ (w : m ≡ j). omega arith))) (r.done m q))
+            (eq-or-lt_of_le {n = m} {m = j} (omega arith));
         kept = λ m p. get_or-set_other ys j m y none (λ (w : m ≡ j). omega arith) ∙ r.kept m (omega arith);
         size = length-set ys j y ∙ r.size;
       }
+    where
+      within : j < length ys
+      within = omega (arith, r.size)
+
+      here : gives j (get_or xs j none) (get_or (set ys j y) j none)
+      here =
+          subst (gives j (get_or xs j none)) (sym (get_or-set_same ys j y none within))
+          (subst (λ (x : A). gives j x y) (get_or_default ys j d none within ∙ r.kept j (le_refl _)) e)
 
   -- so many lanes by another name
-  pub lanes_to : (j n : ℕ) (xs ys : List A) → j ≡ n → LanesOf none h j xs ys → LanesOf none h n xs ys
-  lanes_to j n xs ys e r = subst (λ (k : ℕ). LanesOf none h k xs ys) e r
+  pub lanes_to : (j n : ℕ) (xs ys : List A) → j ≡ n → LanesBy gives none j xs ys → LanesBy gives none n xs ys
+  lanes_to j n xs ys e r = subst (λ (k : ℕ). LanesBy gives none k xs ys) e r
 
-  -- the same lanes by another name
-  pub lanes_same : (g : ℕ → A → A) (n : ℕ) (xs ys : List A) → ((j : ℕ) (x : A) → j < n → g j x ≡ h j x) → LanesOf none g n xs ys → LanesOf none h n xs ys
-  lanes_same g n xs ys e r = record { done = λ j l. r.done j l ∙ e j (get_or xs j none) l; kept = r.kept; size = r.size }
+  -- the first m lanes of a front of n that is lent, in the whole
+  pub lanes_front : (m n : ℕ) (xs ys : List A) → m ≤ n → n ≤ length xs → LanesBy gives none m (take n xs) ys → LanesBy gives none m xs (ys ++ drop n xs)
+  lanes_front m n xs ys h l r =
+      record {
+        done =
+            λ j p. subst (λ (x : A). gives j x (get_or (ys ++ drop n xs) j none)) (get_or-take n xs j none (omega arith))
+            (subst (gives j (get_or (take n xs) j none)) (sym (get_or-append ys (drop n xs) none j (omega (arith, size)))) (r.done j p));
+        kept = λ j p. kept j p (ltb j n) refl;
+        size = length-append ys (drop n xs) ∙ omega (arith, size, length-drop n xs);
+      }
+    where
+      size : length ys ≡ n
+      size = r.size ∙ length-take-le n xs l
+
+      kept : (j : ℕ) → m ≤ j → (b : Bool) → ltb j n ≡ b → get_or (ys ++ drop n xs) j none ≡ get_or xs j none
+      kept j p true e = let q : j < n = ltb-true j n e in get_or-append ys (drop n xs) none j (omega (arith, size)) ∙ r.kept j p ∙ get_or-take n xs j none q
+      kept j p false e =
+          let i : n ≤ j = ltb-false j n e in
+          let o : j ≡ length ys + (j - n) = omega (arith, size) in
+          let q : n + (j - n) ≡ j = omega arith in
+          ap (λ (k : ℕ). get_or (ys ++ drop n xs) k none) o ∙ get_or-append-add ys (drop n xs) (j - n) none ∙ get_or-drop n xs (j - n) none ∙ ap (λ (k : ℕ). get_or xs k none) q
+
+-- every lane has h's value of what it had, and there are no more of them
+pub lanes_done : {A : Type 0} (h : ℕ → A → A) (none : A) (xs ys : List A) → length ys ≡ length xs
+    → ((j : ℕ) → j < length xs → get_or ys j none ≡ h j (get_or xs j none)) → LanesOf none h (length xs) xs ys
+lanes_done h none xs ys e f =
+    record { done = f; kept = λ j l. get_or-eq_default ys none (omega (arith, e)) ∙ sym (get_or-eq_default xs none l); size = e }
+
+-- lanes that become what h says
+pub lanes_as : {A : Type 0} (gives : ℕ → A → A → Type 0) (h : ℕ → A → A) (none : A) (n : ℕ) (xs ys : List A)
+    → ((j : ℕ) (x y : A) → j < n → gives j x y → y ≡ h j x) → LanesBy gives none n xs ys → LanesOf none h n xs ys
+lanes_as gives h none n xs ys f r = record { done = λ j l. f j (get_or xs j none) (get_or ys j none) l (r.done j l); kept = r.kept; size = r.size }
+
+-- ---- a test of lane after lane
+
+module _ {A : Type 0} (gives : A → Bool → Type 0) (none : A) (xs : List A) where
+  pub all_none : AllPass gives none 0 xs true
+  all_none = record { passes = λ _ j l. absurd (omega arith); fails = λ e. absurd (true≢false e) }
+
+  -- one more lane, which has x
+  pub all_more : (j : ℕ) (all test : Bool) (x : A) → j < length xs → AllPass gives none j xs all → x ≡ get_or xs j x → gives x test
+      → AllPass gives none (j + 1) xs (all && test)
+  all_more j all test x l r q e = go all test r (subst (λ (y : A). gives y test) (q ∙ get_or_default xs j x none l) e)
+    where
+      go : (all test : Bool) → AllPass gives none j xs all → gives (get_or xs j none) test → AllPass gives none (j + 1) xs (all && test)
+      go true true r e =
+          record {
+            passes =
+                λ _ k p. ⊎_elim {C = gives (get_or xs k none) true} (λ q. subst (λ (m : ℕ). gives (get_or xs m none) true) (sym q) e) (λ q. r.passes refl k q)
+                (eq-or-lt_of_le {n = k} {m = j} (omega arith));
+            fails = λ q. absurd (true≢false q);
+          }
+      go true false r e = record { passes = λ q. absurd (true≢false (sym q)); fails = λ _. (j, omega arith, e) }
+      go false test r e =
+          let f = r.fails refl in
+          let l : f.0 < j = f.1 in
+          record { passes = λ q. absurd (true≢false (sym q)); fails = λ _. (f.0, omega arith, f.2) }
+
+  -- so many lanes by another name
+  pub all_to : (j n : ℕ) (all : Bool) → j ≡ n → AllPass gives none j xs all → AllPass gives none n xs all
+  all_to j n all e r = subst (λ (k : ℕ). AllPass gives none k xs all) e r
 
 -- ---- a list of lanes that all do the same
 
@@ -57,30 +121,26 @@ module _ {A : Type 0} (none : A) (f : A → A) (same : f none ≡ none) where
   lanes_mapped xs ys r =
       ext_get_or none ys (map f xs) (r.size ∙ sym (length-map xs f)) (λ j l. r.done j (omega (arith, r.size)) ∙ sym (lane_mapped xs j))
 
-  -- where the front of a list is mapped, that many lanes are done
-  pub front_mapped : (n : ℕ) (xs ys : List A) → n ≤ length xs → ys ≡ map f (take n xs) → LanesOf none (λ _. f) n xs (ys ++ drop n xs)
-  front_mapped n xs ys l e =
+  -- and where it is mapped, all lanes are done
+  pub mapped_lanes : (xs ys : List A) → ys ≡ map f xs → LanesOf none (λ _. f) (length xs) xs ys
+  mapped_lanes xs ys e =
       record {
-        done = λ j p. get_or-append ys (drop n xs) none j (omega (arith, size)) ∙ ap (λ (zs : List A). get_or zs j none) e ∙ lane_mapped (take n xs) j ∙ ap f (get_or-take n xs j none p);
-        kept =
-            λ j p.
-            let o : j ≡ length ys + (j - n) = omega (arith, size) in
-            let q : n + (j - n) ≡ j = omega arith in
-            ap (λ (k : ℕ). get_or (ys ++ drop n xs) k none) o ∙ get_or-append-add ys (drop n xs) (j - n) none ∙ get_or-drop n xs (j - n) none ∙ ap (λ (k : ℕ). get_or xs k none) q;
-        size = length-append ys (drop n xs) ∙ omega (arith, size, length-drop n xs);
+        done = λ j l. lane j;
+        kept = λ j l. lane j ∙ ap f (get_or-eq_default xs none l) ∙ same ∙ sym (get_or-eq_default xs none l);
+        size = ap length e ∙ length-map xs f;
       }
     where
-      size : length ys ≡ n
-      size = ap length e ∙ length-map (take n xs) f ∙ length-take-le n xs l
+      lane : (j : ℕ) → get_or ys j none ≡ f (get_or xs j none)
+      lane j = ap (λ (zs : List A). get_or zs j none) e ∙ lane_mapped xs j
 
 -- the sine of NaN is NaN, so a list of sines is one of lanes
 pub sines_mapped : (table : List ℕ) (xs ys : List Float) → LanesOf nan (turn_sine_at table) (length xs) xs ys → ys ≡ map (turn_sine_by table) xs
 unfolding turn_sine_at
 sines_mapped table xs ys r = lanes_mapped nan (turn_sine_by table) (sine_not_finite table nan tt) xs ys r
 
-pub front_sines : (table : List ℕ) (n : ℕ) (xs ys : List Float) → n ≤ length xs → ys ≡ map (turn_sine_by table) (take n xs) → LanesOf nan (turn_sine_at table) n xs (ys ++ drop n xs)
+pub mapped_sines : (table : List ℕ) (xs ys : List Float) → ys ≡ map (turn_sine_by table) xs → LanesOf nan (turn_sine_at table) (length xs) xs ys
 unfolding turn_sine_at
-front_sines table n xs ys l e = front_mapped nan (turn_sine_by table) (sine_not_finite table nan tt) n xs ys l e
+mapped_sines table xs ys e = mapped_lanes nan (turn_sine_by table) (sine_not_finite table nan tt) xs ys e
 
 -- ---- patterns
 
@@ -100,80 +160,6 @@ pattern_back x h l = go (is_nan x) refl
     go true e = absurd (omega (arith, pattern_nan x e))
     go false e = ap (of_bits binary32) (pattern_bits x (subst (λ (b : Bool). T (not b)) (sym e) tt)) ∙ of_bits-to_bits binary32 x h
 
--- ---- fields
-
-pub has_field_law : (e b : ℕ) → field_of b ≡ e → has_field e b ≡ 1
-unfolding has_field
-has_field_law e b h = rw (eq-eqb _ _ h, has_field)
-
-pub has_no_field : (e b : ℕ) → (field_of b ≡ e → ⊥) → has_field e b ≡ 0
-unfolding has_field
-has_no_field e b h = rw (ne_eqb _ _ h, has_field)
-
--- either way it is 1 at the most, and 1 only with the field
-pub has_le : (e b : ℕ) → has_field e b ≤ 1
-has_le e b = go (eqb (field_of b) e) refl
-  where
-    go : (t : Bool) → eqb (field_of b) e ≡ t → has_field e b ≤ 1
-    go true q = omega (arith, has_field_law e b (eqb-true _ _ q))
-    go false q = omega (arith, has_no_field e b (eqb-false _ _ q))
-
-has_one : (e b : ℕ) → 1 ≤ has_field e b → field_of b ≡ e
-has_one e b l = go (eqb (field_of b) e) refl
-  where
-    go : (t : Bool) → eqb (field_of b) e ≡ t → field_of b ≡ e
-    go true q = eqb-true _ _ q
-    go false q = absurd (omega (arith, has_no_field e b (eqb-false _ _ q)))
-
-module _ (e : ℕ) (bits : List ℕ) where
-  pub having_none : having e bits 0 ≡ 0
-  unfolding having
-  having_none = refl
-
-  pub having_more : (j : ℕ) → having e bits (j + 1) ≡ having e bits j + has_field e (get_or bits j 0)
-  unfolding having
-  having_more j = ap (having e bits) (add-one j)
-
-  pub having_le : (n : ℕ) → having e bits n ≤ n
-  unfolding having
-  having_le zero = omega arith
-  having_le (suc n) = omega (arith, having_le n, has_le e (get_or bits n 0))
-
-  -- where as many as there are have it, each has it
-  pub having_all : (n : ℕ) → n ≤ having e bits n → (j : ℕ) → j < n → field_of (get_or bits j 0) ≡ e
-  unfolding having
-  having_all zero l j p = absurd (omega arith)
-  having_all (suc n) l j p =
-      let q = having_le n in
-      let r = has_le e (get_or bits n 0) in
-      for_more (λ (k : ℕ). field_of (get_or bits k 0) ≡ e) n (having_all n (omega (arith, q, r))) (has_one e (get_or bits n 0) (omega (arith, q, r))) j (omega arith)
-
-module _ (bits : List ℕ) (n : ℕ) where
-  -- the tests of `alike`: two of the first pattern's field, and a count
-  pub alike_low : field_of (get_or bits 0 0) < 95 → alike bits n ≡ false
-  unfolding alike
-  alike_low l = rw (lt-leb 95 (field_of (get_or bits 0 0)) l, alike)
-
-  pub alike_high : 149 < field_of (get_or bits 0 0) → alike bits n ≡ false
-  unfolding alike
-  alike_high l = rw (le-leb 95 (field_of (get_or bits 0 0)) (omega arith), lt-leb (field_of (get_or bits 0 0)) 149 l, alike)
-
-  pub alike_else : 95 ≤ field_of (get_or bits 0 0) → field_of (get_or bits 0 0) ≤ 149 → alike bits n ≡ eqb (having (field_of (get_or bits 0 0)) bits n) n
-  unfolding alike
-  alike_else l h = rw (le-leb 95 (field_of (get_or bits 0 0)) l, le-leb (field_of (get_or bits 0 0)) 149 h, alike)
-
-  -- patterns that are alike have the field of the first
-  pub alike_fields : alike bits n ≡ true → (field_of (get_or bits 0 0) ≤ 149) × FieldsAre (149 - field_of (get_or bits 0 0)) n bits
-  unfolding alike
-  alike_fields q =
-      let e = field_of (get_or bits 0 0) in
-      let t : T (leb 95 e && (leb e 149 && eqb (having e bits n) n)) = subst T (sym q) tt in
-      let u = and_r (leb 95 e) (leb e 149 && eqb (having e bits n) n) t in
-      let l : 95 ≤ e = leb→le 95 e (and_l (leb 95 e) (leb e 149 && eqb (having e bits n) n) t) in
-      let h : e ≤ 149 = leb→le e 149 (and_l (leb e 149) (eqb (having e bits n) n) u) in
-      let a : having e bits n ≡ n = eqb→eq (having e bits n) n (and_r (leb e 149) (eqb (having e bits n) n) u) in
-      (h, (omega arith, λ j p. omega (arith, having_all e bits n (omega arith) j p)))
-
 -- ---- the position of a pattern by its 24 digits alone
 
 regroup : (m c p : ℕ) → m * 512 * c * p ≡ m * c * (512 * p)
@@ -191,32 +177,10 @@ position_narrow b d l e =
 
 -- ---- the steps one after the other
 
--- each fold ends at the crest
-pub folds_end : (positions blank folds : List ℕ) (n : ℕ) → LanesOf 0 (fold_at positions) n blank folds → FoldsEnd n folds
-unfolding fold_at
-folds_end positions blank folds n r j l = rw (r.done j l) (folded_le (get_or positions j 0))
-
 -- one lane: the sine of x by its pattern b, its position p and the height s there
-one : (table : List ℕ) (x : Float) (b p s : ℕ) → T (fits binary32 x) → b ≡ pattern_of x → 95 ≤ field_of b → field_of b < 158 → p ≡ position_of (of_bits binary32 b)
+pub lane_sine : (table : List ℕ) (x : Float) (b p s : ℕ) → T (fits binary32 x) → b ≡ pattern_of x → 95 ≤ field_of b → field_of b < 158 → p ≡ position_of (of_bits binary32 b)
     → s ≡ height table (folded p) → signed_of s b p ≡ turn_sine_by table x
 unfolding signed_of sine_at
-one table x b p s f eb l h ep es =
+lane_sine table x b p s f eb l h ep es =
     let q : of_bits binary32 b ≡ x = ap (of_bits binary32) eb ∙ pattern_back x f (omega arith) in
     subst (λ (y : Float). signed_of s b p ≡ turn_sine_by table y) q (rw (es, bits_under b table h, ep))
-
-pub sines_lanes : (table : List ℕ) (values after : List Float) (d : ℕ) (bits none positions none2 folds heights : List ℕ) → LanesAlike values bits → FieldsAre d (length values) bits
-    → LanesOf 0 (position_at bits) (length values) none positions → LanesOf 0 (fold_at positions) (length values) none2 folds → LanesOf 0 (height_at table) (length values) folds heights
-    → LanesOf nan (signed_at heights bits positions) (length values) values after → LanesOf nan (turn_sine_at table) (length values) values after
-unfolding position_at fold_at height_at signed_at turn_sine_at
-sines_lanes table values after d bits none positions none2 folds heights a es ps us ss r =
-    record {
-      done =
-          λ j l.
-          let e : field_of (get_or bits j 0) + d ≡ 149 = es.1 j l in
-          let o : d ≤ 54 = es.0 in
-          r.done j l
-          ∙ one table (get_or values j nan) (get_or bits j 0) (get_or positions j 0) (get_or heights j 0) (a.fit j l) (a.patterns j l) (omega arith) (omega arith) (ps.done j l)
-          (ss.done j l ∙ ap (height table) (us.done j l));
-      kept = r.kept;
-      size = r.size;
-    }
