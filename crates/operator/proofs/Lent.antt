@@ -7,16 +7,15 @@ use lib.ListN.{length, get_or}
 use lib.Ieee.{Float, nan}
 use Rattle.sine.specs.Quarter.{quarter}
 use Rattle.operator.specs.declared.operator.Operator.{Operator}
-use Rattle.operator.specs.declared.operator.Level.{Level}
-use Rattle.operator.specs.declared.operator.Level.TheVariants.{Held, Past}
+use Rattle.std.specs.Prelude.{Option, Some, None}
 use Rattle.operator.specs.Evaluation.{level_of, worked, rounds, operator_at}
 use Rattle.operator.specs.Lent.{worked_by, operator_by, over, worked_over}
 
 -- one round by document 01's table
-worked_quarter : (op : Operator) (f t : Float) (level : Level) → worked_by quarter op f t level ≡ worked op f t level
+worked_quarter : (op : Operator) (f t : Float) (level : Option Float) → worked_by quarter op f t level ≡ worked op f t level
 unfolding worked_by worked
-worked_quarter op f t (Held x) = refl
-worked_quarter op f t Past = refl
+worked_quarter op f t (Some x) = refl
+worked_quarter op f t None = refl
 
 -- an operator by document 01's table
 pub by_quarter : (f d t : Float) (op : Operator) (x : Float) → operator_by quarter f d t op x ≡ operator_at f d t op x

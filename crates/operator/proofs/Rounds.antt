@@ -1,20 +1,14 @@
--- Laws of rounds: one more round, the last one, and that a level which has passed changes nothing however often.
+-- Laws of rounds: one more round, none left, and that a level which has passed changes nothing however often.
 -- Assumes nothing.
 use mathlib.Core.List.{List}
 use mathlib.Core.Path.{◌≡◌, refl, sym, ap, ◌∙◌}
 use Prim.Native.Nat.{ℕ, zero, suc, ◌+◌, ◌-◌, ◌<◌}
-use native.Mathlib.Nat.{sub-zero}
 use native.Mathlib.Omega.{arith}
 use lib.Ieee.{Float}
 use Rattle.operator.specs.declared.operator.Operator.{Operator}
-use Rattle.operator.specs.declared.operator.Level.TheVariants.{Past}
+use Rattle.std.specs.Prelude.{None}
 use Rattle.operator.specs.Evaluation.{rounds}
 use Rattle.operator.specs.Lent.{worked_by}
-
--- the first of n + 1 rounds
-pub rounds_first : (n : ℕ) (h : Float → Float) (x y : Float) → y ≡ h x → rounds (suc n) h x ≡ rounds (n - 0) h y
-unfolding rounds
-rounds_first n h x y e = ap (rounds n h) (sym e) ∙ ap (λ (k : ℕ). rounds k h y) (sym (sub-zero n))
 
 -- with i of n rounds done, one more
 pub rounds_more : (n i : ℕ) (h : Float → Float) (x y : Float) → i < n → y ≡ h x → rounds (n - i) h x ≡ rounds (n - (i + 1)) h y
@@ -29,7 +23,7 @@ unfolding rounds
 rounds_done n i h x e = ap (λ (k : ℕ). rounds k h x) e
 
 -- past the envelope the input passes unchanged
-pub rounds_past : (n : ℕ) (table : List ℕ) (op : Operator) (f t x : Float) → rounds n (worked_by table op f t Past) x ≡ x
+pub rounds_past : (n : ℕ) (table : List ℕ) (op : Operator) (f t x : Float) → rounds n (worked_by table op f t None) x ≡ x
 unfolding rounds worked_by
 rounds_past zero table op f t x = refl
 rounds_past (suc n) table op f t x = rounds_past n table op f t x

@@ -1,19 +1,17 @@
 -- An operator by a lent table of the sine, and at many times side by side. By document 01's table it is that of `Evaluation.antt`
 -- (`proofs/Lent.antt`), so nobody who reads document 01 has to believe this file. Assumes nothing.
-use Rattle.std.specs.Prelude.{List, [], ◌∷◌, ℕ, suc, Float}
+use Rattle.std.specs.Prelude.{Option, Some, None, List, [], ◌∷◌, ℕ, suc, Float}
 use Rattle.std.specs.Float.{binary32}
 use Rattle.std.specs.Float.Ieee.{add, mul}
 use Rattle.sine.specs.Turn.{turn_sine_by}
 use Rattle.operator.specs.declared.operator.Operator.{Operator}
-use Rattle.operator.specs.declared.operator.Level.{Level}
-use Rattle.operator.specs.declared.operator.Level.TheVariants.{Held, Past}
 use Rattle.operator.specs.Evaluation.{level_of, turn_at, rounds}
 
 -- `worked` by a table
-unfoldable pub worked_by : List ℕ → Operator → Float → Float → Level → Float → Float
+unfoldable pub worked_by : List ℕ → Operator → Float → Float → Option Float → Float → Float
 unfolding turn_at
-worked_by table op f t (Held level) x = mul binary32 level (mul binary32 op.amplitude (turn_sine_by table (add binary32 (turn_at op f t) x)))
-worked_by table op f t Past x = x
+worked_by table op f t (Some level) x = mul binary32 level (mul binary32 op.amplitude (turn_sine_by table (add binary32 (turn_at op f t) x)))
+worked_by table op f t None x = x
 
 -- `operator_at` by a table
 unfoldable pub operator_by : List ℕ → Float → Float → Float → Operator → Float → Float

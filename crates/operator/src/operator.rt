@@ -1,7 +1,6 @@
 // An operator: a sine with an envelope, modulated by its input.
 
-ghost use Rattle.std.specs.Prelude.{◌≡◌, suc};
-ghost use Rattle.operator.specs.declared.operator.Level.TheVariants.{Held};
+ghost use Rattle.std.specs.Prelude.{◌≡◌, suc, Some};
 ghost use Rattle.operator.specs.Evaluation.{level_of, rounds, operator_at};
 ghost use Rattle.operator.specs.Lent.{worked_by, operator_by};
 ghost use Rattle.operator.specs.Lanes.{decay_level, release_level};
@@ -18,13 +17,6 @@ pub struct Operator {
     pub sustain: f32,
     pub release: f32,
     pub feedback: u32,
-}
-
-// How loud an operator is at one time of a note: a factor, or past every stage of its envelope.
-#[derive(Clone, Copy)]
-pub(crate) enum Level {
-    Held(f32),
-    Past,
 }
 
 // The f32 nearest to pi.
@@ -45,8 +37,8 @@ pub(crate) fn release_level(sustain: f32, release: f32, d: f32, t: f32) -> f32
 }
 
 impl Operator {
-    // How loud the operator is at time t of a note that lasts d seconds.
-    pub(crate) fn level(self, d: f32, t: f32) -> Level
+    // How loud the operator is at time t of a note that lasts d seconds: no factor past every stage of its envelope.
+    pub(crate) fn level(self, d: f32, t: f32) -> Option<f32>
         ensures { result ≡ level_of self d t }
     {
         let attack = self.attack;
@@ -54,32 +46,29 @@ impl Operator {
         let sustain = self.sustain;
         let release = self.release;
         if t < attack {
-            return Level::Held(t / attack);
+            return Some(t / attack);
         }
         if t < d {
             if t < attack + decay {
-                return Level::Held(decay_level(attack, decay, sustain, t));
+                return Some(decay_level(attack, decay, sustain, t));
             }
-            return Level::Held(sustain);
+            return Some(sustain);
         }
         if t < d + release {
-            return Level::Held(release_level(sustain, release, d, t));
+            return Some(release_level(sustain, release, d, t));
         }
-        Level::Past
+        None
     }
 
     // Feedback + 1 rounds of work at a level on an input.
     fn rounds(self, table: &[u32; 1025], f: f32, t: f32, level: f32, input: f32) -> f32
-        ensures { result ≡ rounds (suc self.feedback) (worked_by table.now self f t (Held level)) input }
+        ensures { result ≡ rounds (suc self.feedback) (worked_by table.now self f t (Some level)) input }
     {
         let turn = 2.0 * PI * f * self.freqratio * t;
         let amplitude = self.amplitude;
-        let most = self.feedback;
-        let mut x = level * (amplitude * sine_by(table, turn + input));
-        let mut i: u32 = 0;
-        while i < most {
+        let mut x = input;
+        for _ in 0..=self.feedback {
             x = level * (amplitude * sine_by(table, turn + x));
-            i += 1;
         }
         x
     }
@@ -89,10 +78,9 @@ impl Operator {
     pub(crate) fn eval_by(self, table: &[u32; 1025], f: f32, d: f32, t: f32, input: f32) -> f32
         ensures { result ≡ operator_by table.now f d t self input }
     {
-        let level = self.level(d, t);
-        match level {
-            Level::Held(x) => self.rounds(table, f, t, x, input),
-            Level::Past => input,
+        match self.level(d, t) {
+            Some(level) => self.rounds(table, f, t, level, input),
+            None => input,
         }
     }
 

@@ -1,5 +1,4 @@
--- `rounds` does one round before its loop and one in each turn: what is left of them, done on x, gives the result.
--- Assumes nothing.
+-- `rounds` does one round in each turn: what is left of them, done on x, gives the result. Assumes nothing.
 use mathlib.Core.Path.{◌≡◌}
 use mathlib.Core.List.{List}
 use Prim.Native.Nat.{ℕ, suc, ◌-◌}
@@ -12,9 +11,6 @@ use Rattle.operator.proofs.operator.Operator.rounds.Given as goal
 abbrev pub round : List ℕ → Float → Float → Float → Float → Float
 round table level amplitude turn y = mul binary32 level (mul binary32 amplitude (turn_sine_by table (add binary32 turn y)))
 
-abbrev pub invariant-loop-i : goal.invariant-loop-i
-invariant-loop-i l =
-    rounds (suc l.most) (round l.table l.level l.amplitude l.turn) l.input ≡ rounds (l.most - l.i) (round l.table l.level l.amplitude l.turn) l.x
-
-abbrev pub decreases-loop-i : goal.decreases-loop-i
-decreases-loop-i l = l.most - l.i
+abbrev pub invariant-loop : goal.invariant-loop
+invariant-loop l =
+    rounds (suc l.end) (round l.table l.level l.amplitude l.turn) l.input ≡ rounds (suc l.end - l.counter) (round l.table l.level l.amplitude l.turn) l.x
