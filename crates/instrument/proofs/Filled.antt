@@ -1,20 +1,11 @@
 -- Laws of a filled slice for those who call `fill`: what stands at each place afterwards, and that filling a slice is filling its front and then
 -- its rest, whose samples come later. Assumes nothing.
-use Rattle.std.proofs.Common.{◌≡◌, ℕ, zero, suc, ◌+◌, ◌-◌, ◌<◌, ◌≤◌, Bool, true, false, ltb, List, [], ◌∷◌, ◌++◌, length, get_or, take, drop, sym, refl, ap, ◌∙◌, subst, ap₂, le_of_suc-le-suc, not-suc-le-zero, add-zero, add-suc, suc-add, zero-add, arith, length-append, length-drop, length-take-le, get_or-drop, get_or-take, get_or-append-add, ext_get_or, ltb-false, ltb-true, le-ltb, lt-ltb}
+use Rattle.std.proofs.Common.{◌≡◌, ℕ, ◌+◌, ◌-◌, ◌<◌, ◌≤◌, Bool, true, false, ltb, List, ◌++◌, length, get_or, take, drop, sym, refl, ap, ◌∙◌, subst, ap₂, zero-add, arith, length-append, length-drop, length-take-le, get_or-drop, get_or-take, get_or-append-add, ext_get_or, ltb-false, ltb-true, le-ltb, lt-ltb}
 use lib.ListN.{get_or-append}
 use lib.Ieee.{Float, nan, binary32, add}
 use Rattle.instrument.specs.declared.machine.Instrument.{Instrument}
 use Rattle.instrument.specs.Fill.{mixed, mixed_from, sound_at, sound_from, count_from, filled}
-use Rattle.instrument.proofs.Filling.{length_mixed}
-
-module _ (v : ℕ → Float) (added : ℕ) where
-  -- place k of a list mixed from i on
-  mixed_at : (i : ℕ) (xs : List Float) (k : ℕ) → k < length xs → get_or (mixed_from v added i xs) k nan ≡ mixed added (i + k) (get_or xs k nan) (v (i + k))
-  unfolding mixed_from
-  mixed_at i [] k h = absurd (not-suc-le-zero h)
-  mixed_at i (x ∷ xs) zero h = ap (λ (n : ℕ). mixed added n x (v n)) (sym (add-zero i))
-  mixed_at i (x ∷ xs) (suc k) h =
-      mixed_at (suc i) xs k (le_of_suc-le-suc h) ∙ ap (λ (n : ℕ). mixed added n (get_or xs k nan) (v n)) (suc-add i k ∙ sym (add-suc i k))
+use Rattle.instrument.proofs.Filling.{length_mixed, mixed_at}
 
 -- ---- what stands at a place
 

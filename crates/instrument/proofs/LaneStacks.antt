@@ -1,14 +1,13 @@
 -- The stacks of lanes: what an operator or a push does to each is what the machine does. The counts and the depth are shared.
 -- Assumes nothing.
-use Rattle.std.proofs.Common.{◌≡◌, ℕ, zero, suc, ◌+◌, ◌-◌, ◌*◌, ◌<◌, ◌≤◌, List, ◌∷◌, length, get_or, set, sym, refl, ap, ◌∙◌, subst, ap₂, le_refl, mul-le-mul_right, add-one, arith, length-set, get_or-set_other, get_or-set_same, w64, Fits}
+use Rattle.std.proofs.Common.{◌≡◌, ℕ, zero, suc, ◌+◌, ◌*◌, ◌<◌, ◌≤◌, List, ◌∷◌, length, get_or, set, sym, refl, ap, ◌∙◌, subst, ap₂, le_refl, mul-le-mul_right, add-one, arith, length-set, get_or-set_other, get_or-set_same}
 use lib.Ieee.{Float, nan, binary32, add}
 use Rattle.ieee.specs.Constants.{plus_zero}
 use Rattle.operator.specs.declared.operator.Operator.{Operator}
 use Rattle.instrument.specs.declared.machine.Command.{Command}
-use Rattle.instrument.specs.declared.machine.Command.TheVariants as Command
 use Rattle.instrument.specs.Machine.{Entry, topped, step}
-use Rattle.instrument.specs.Lanes.{Keeps, SettlesLanes, StepsLanes, settled_at, step_by, stack_by, lane_stack, lane_state, plus_kept}
-use Rattle.operator.specs.Lanes.{Lanes, always}
+use Rattle.instrument.specs.Lanes.{Keeps, SettlesLanes, StepsLanes, settled_at, step_by, stack_by, lane_stack, lane_state}
+use Rattle.operator.specs.Lanes.{Lanes}
 use Rattle.operator.specs.Lent.{worked_over}
 use Rattle.operator.proofs.Lent.{over_length, over_done}
 
@@ -42,9 +41,9 @@ module _ (w depth : ℕ) (values : List Float) (counts : List ℕ) (saved : List
         values_size = refl;
       }
 
-  pub settles_add : (top : ℕ) (after : List Float) → depth ≡ suc top → get_or counts top 0 ≡ 0 → Lanes (plus_kept saved (top * w)) w values after
+  pub settles_add : (top : ℕ) (after : List Float) → depth ≡ suc top → get_or counts top 0 ≡ 0 → Lanes (λ j x. add binary32 x (get_or saved (top * w + j) nan)) w values after
       → SettlesLanes w depth values counts saved after top counts
-  unfolding lane_state settled_at plus_kept
+  unfolding lane_state settled_at
   settles_add top after e z r =
       record {
         state =
@@ -71,15 +70,6 @@ module _ (w depth : ℕ) (values : List Float) (counts : List ℕ) (saved : List
         counts_size = length-set counts top left;
         values_size = refl;
       }
-
--- ---- rows of lanes
-
--- a row of w lanes lies within 64 of them
-pub row_within : (k w n : ℕ) → k < 64 → n ≡ 64 * w → k * w + w ≤ n
-row_within k w n h e = omega (arith, mul-le-mul_right w h)
-
-pub row_fits : (k w : ℕ) → k < 64 → w ≤ 32 → Fits w64 (k * w)
-row_fits k w h l = omega (arith, mul-le-mul_right w h)
 
 -- ---- one command
 
@@ -108,15 +98,15 @@ module _ (table : List ℕ) (f d : Float) (times : List Float) (w depth : ℕ) (
       }
 
   pub steps_stack : (m : ℕ) (command : Command) (after savedAfter : List Float) → command ≡ Command.Stack m → length values ≡ w → length times ≤ w → depth < length counts
-      → Keeps (depth * w) w values saved savedAfter → Lanes (always plus_zero) w values after
+      → Keeps (depth * w) w values saved savedAfter → ((j : ℕ) → j < w → get_or after j nan ≡ plus_zero) → length after ≡ length values
       → StepsLanes table f d times w command depth values counts saved after (depth + 1) (set counts depth m) savedAfter
-  unfolding lane_state lane_stack step_by step always stack_by
-  steps_stack m command after savedAfter e z h g k r =
+  unfolding lane_state lane_stack step_by step stack_by
+  steps_stack m command after savedAfter e z h g k r q =
       record {
         state =
             λ j l.
             let u : j < w = omega arith in
-            ap (λ (v : Float). lane_state w j v (depth + 1) (set counts depth m) savedAfter) (r.done j u)
+            ap (λ (v : Float). lane_state w j v (depth + 1) (set counts depth m) savedAfter) (r j u)
             ∙ ap (λ (i : ℕ). lane_state w j plus_zero i (set counts depth m) savedAfter) (add-one depth)
             ∙ ap₂ (λ (x : Entry Float) (rest : List (Entry Float)). record { value = plus_zero; stack = x ∷ rest })
             (ap₂ (λ (c : ℕ) (y : Float). record { left = c; saved = y }) (get_or-set_same counts depth m 0 g) (k.done j u))
@@ -126,5 +116,5 @@ module _ (table : List ℕ) (f d : Float) (times : List Float) (w depth : ℕ) (
         within = le_refl _;
         counts_size = length-set counts depth m;
         saved_size = k.size;
-        values_size = r.size;
+        values_size = q;
       }

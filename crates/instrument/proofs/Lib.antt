@@ -1,6 +1,5 @@
 pub mod Filled
 pub mod Filling
-pub mod Keeping
 pub mod LaneStacks
 pub mod Lent
 pub mod Running

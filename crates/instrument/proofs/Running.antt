@@ -1,6 +1,6 @@
 -- Running an instrument's commands on lanes: in each lane, what is left of them, run from the lane's state in the arrays, gives what
 -- the whole list gives. Assumes nothing.
-use Rattle.std.proofs.Common.{◌≡◌, ℕ, suc, ◌+◌, ◌*◌, ◌<◌, ◌≤◌, min, List, [], ◌∷◌, map, length, get_or, take, drop, pos, sym, ap, ◌∙◌, add-one, arith, drop_of_length-le, length-take, length-take-le, drop-cons, get_or-take}
+use Rattle.std.proofs.Common.{◌≡◌, ℕ, suc, ◌+◌, ◌*◌, ◌<◌, ◌≤◌, min, List, [], ◌∷◌, map, length, get_or, take, drop, pos, length-take-le, sym, ap, subst, ◌∙◌, add-one, arith, drop_of_length-le, length-take, drop-cons, get_or-take}
 use lib.ListN.{length-map, get_or-map}
 use lib.Ieee.{Float, nan, binary32, mul, div, of_int}
 use Rattle.ieee.specs.Constants.{one, plus_zero}
@@ -10,7 +10,7 @@ use Rattle.instrument.specs.declared.machine.Instrument.{Instrument}
 use Rattle.instrument.specs.Machine.{State, run, machine}
 use Rattle.instrument.specs.Evaluation.{list_of}
 use Rattle.instrument.specs.Lent.{instrument_by, sound_by}
-use Rattle.instrument.specs.Lanes.{StepsLanes, step_by, run_by, lane_state, timed}
+use Rattle.instrument.specs.Lanes.{Front, MixesLanes, StepsLanes, step_by, run_by, lane_state, timed}
 use Rattle.operator.specs.Lanes.{Lanes}
 use Rattle.instrument.proofs.Filling.{sound_is}
 
@@ -62,20 +62,21 @@ module _ (table : List ℕ) (f d : Float) (i : Instrument) (times : List Float) 
       }
 
   -- one more command
-  pub lanes_step : (k depth : ℕ) (values : List Float) (counts : List ℕ) (saved : List Float) (s : Slot) (values' : List Float) (depth' : ℕ) (counts' : List ℕ) (saved' : List Float) (w' : ℕ)
-      → k < min i.count 64 → length i.commands ≡ 64 → w' ≡ w → RunningLanes table f d i times w k depth values counts saved
-      → StepsLanes table f d times w' (get_or i.commands k s).command depth values counts saved values' depth' counts' saved'
+  pub lanes_step : (k depth : ℕ) (values : List Float) (counts : List ℕ) (saved : List Float) (s : Slot) (command : Command) (values' : List Float) (depth' : ℕ) (counts' : List ℕ) (saved' : List Float) (w' : ℕ)
+      → k < min i.count 64 → length i.commands ≡ 64 → command ≡ (get_or i.commands k s).command → w' ≡ w → RunningLanes table f d i times w k depth values counts saved
+      → StepsLanes table f d times w' command depth values counts saved values' depth' counts' saved'
       → RunningLanes table f d i times w (k + 1) depth' values' counts' saved'
   unfolding run_by run step_by
-  lanes_step k depth values counts saved s values' depth' counts' saved' w' h g z r e =
+  lanes_step k depth values counts saved s command values' depth' counts' saved' w' h g o z r e =
+      let l : drop k (list_of i) ≡ command ∷ drop (k + 1) (list_of i) = list_at i k s h g ∙ ap (λ (x : Command). x ∷ drop (k + 1) (list_of i)) (sym o) in
       record {
         rest =
-            λ j l.
+            λ j l'.
             ap (λ (u : ℕ). run_by table f d (get_or times j nan) (drop (k + 1) (list_of i)) (lane_state u j (get_or values' j nan) depth' counts' saved')) (sym z)
-            ∙ ap (run_by table f d (get_or times j nan) (drop (k + 1) (list_of i))) (e.state j l)
-            ∙ ap (λ (u : ℕ). run_by table f d (get_or times j nan) ((get_or i.commands k s).command ∷ drop (k + 1) (list_of i)) (lane_state u j (get_or values j nan) depth counts saved)) z
-            ∙ sym (ap (λ (cs : List Command). run_by table f d (get_or times j nan) cs (lane_state w j (get_or values j nan) depth counts saved)) (list_at i k s h g))
-            ∙ r.rest j l;
+            ∙ ap (run_by table f d (get_or times j nan) (drop (k + 1) (list_of i))) (e.state j l')
+            ∙ ap (λ (u : ℕ). run_by table f d (get_or times j nan) (command ∷ drop (k + 1) (list_of i)) (lane_state u j (get_or values j nan) depth counts saved)) z
+            ∙ sym (ap (λ (cs : List Command). run_by table f d (get_or times j nan) cs (lane_state w j (get_or values j nan) depth counts saved)) l)
+            ∙ r.rest j l';
         shallow = omega (arith, e.within, r.shallow);
         timed = r.timed;
         counts_size = e.counts_size ∙ r.counts_size;
@@ -93,12 +94,27 @@ module _ (table : List ℕ) (f d : Float) (i : Instrument) (times : List Float) 
 
 -- the lanes' values are the note's samples
 pub lanes_sound : (table : List ℕ) (f d : Float) (i : Instrument) (amplitude : Float) (rate first at n : ℕ) (unit : Float) (before times values : List Float) → unit ≡ div binary32 one (of_int binary32 (pos rate))
-    → n ≤ length times → Lanes (timed (first + at) unit) n before times
-    → ((j : ℕ) → j < length (take n times) → get_or values j nan ≡ instrument_by table f d (get_or (take n times) j nan) i)
+    → Lanes (timed (first + at) unit) n before times → n ≤ length times → ((j : ℕ) → j < length times → get_or values j nan ≡ instrument_by table f d (get_or times j nan) i)
     → (j : ℕ) → j < n → mul binary32 amplitude (get_or values j nan) ≡ sound_by table i amplitude f d rate first (at + j)
 unfolding timed
-lanes_sound table f d i amplitude rate first at n unit before times values u z t v j l =
+lanes_sound table f d i amplitude rate first at n unit before times values u t z v j l =
     let w : first + at + j ≡ first + (at + j) = omega arith in
     sound_is table i amplitude f d rate first (at + j) unit (get_or values j nan) u
-    (v j (omega (arith, length-take-le n times z))
-    ∙ ap (λ (x : Float). instrument_by table f d x i) (get_or-take n times j nan l ∙ t.done j l ∙ ap (λ (k : ℕ). mul binary32 (of_int binary32 (pos k)) unit) w))
+    (v j (omega arith) ∙ ap (λ (x : Float). instrument_by table f d x i) (t.done j l ∙ ap (λ (k : ℕ). mul binary32 (of_int binary32 (pos k)) unit) w))
+
+-- a turn over n samples: with i of them in the slice, i + n are
+pub turn : (table : List ℕ) (f d : Float) (inst : Instrument) (amplitude : Float) (rate first added i n : ℕ) (unit : Float) (had times values whole before after : List Float)
+    → unit ≡ div binary32 one (of_int binary32 (pos rate)) → n ≤ length had → n ≤ length values → i + n ≤ length whole
+    → Lanes (timed (first + i) unit) (length (take n had)) (take n had) times
+    → ((j : ℕ) → j < length times → get_or values j nan ≡ instrument_by table f d (get_or times j nan) inst)
+    → before ≡ Front (sound_by table inst amplitude f d rate first) added i whole
+    → MixesLanes added amplitude i (length (take n values)) (take n values) before after
+    → after ≡ Front (sound_by table inst amplitude f d rate first) added (i + n) whole
+turn table f d inst amplitude rate first added i n unit had times values whole before after u a b g t v e m =
+    let v' = sound_by table inst amplitude f d rate first in
+    let z : length (take n values) ≡ n = length-take-le n values b in
+    let t' : Lanes (timed (first + i) unit) n (take n had) times = subst (λ (k : ℕ). Lanes (timed (first + i) unit) k (take n had) times) (length-take-le n had a) t in
+    let s = lanes_sound table f d inst amplitude rate first i n unit (take n had) times values u t' (omega (arith, t'.size, length-take-le n had a)) v in
+    subst (λ (k : ℕ). after ≡ Front v' added (i + k) whole) z
+    (m.mixes v' whole (omega (arith, z, g)) e
+    (λ j p. let q : j < n = omega (arith, z) in ap (λ (x : Float). mul binary32 amplitude x) (get_or-take n values j nan q) ∙ s j q))

@@ -27,10 +27,6 @@ run_by table f d t = run Float (operator_by table f d t) (add binary32) plus_zer
 unfoldable pub timed : ℕ → Float → ℕ → Float → Float
 timed first unit j x = mul binary32 (of_int binary32 (pos (first + j))) unit
 
--- the sum with what was set aside from an element on
-unfoldable pub plus_kept : List Float → ℕ → ℕ → Float → Float
-plus_kept saved from j x = add binary32 x (slice_index_or saved (from + j) nan)
-
 -- n values stand from an element on, and what is below it is as it was
 pub record Keeps (from n : ℕ) (values before after : List Float) : Type 0 where
   pub done : (j : ℕ) → j < n → slice_index_or after (from + j) nan ≡ slice_index_or values j nan

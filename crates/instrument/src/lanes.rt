@@ -1,66 +1,28 @@
-// The stack machine on many samples side by side, a lane for each: a command is run on all lanes before the next one. What the lanes
-// set aside stands in one array, a row of lanes for each depth of the stack.
+// The stack machine on many samples side by side, a lane for each: a command is run on all lanes before the next one.
+// What the lanes set aside stands in one array, a row of lanes for each depth of the stack.
 
 ghost use Rattle.std.specs.Prelude.{◌≡◌, ◌+◌, ◌*◌, ◌<◌, ◌≤◌, length};
-ghost use Rattle.ieee.specs.Constants.{plus_zero};
-ghost use Rattle.operator.specs.Lanes.{Lanes, always};
+ghost use Rattle.operator.specs.Lanes.{Lanes};
 ghost use Rattle.instrument.specs.Fill.{mixed};
-ghost use Rattle.instrument.specs.Lanes.{Keeps, SettlesLanes, StepsLanes, MixesLanes, timed, plus_kept};
+ghost use Rattle.instrument.specs.Lanes.{SettlesLanes, StepsLanes, MixesLanes, timed};
 
 use crate::machine::Command;
+use sine::lanes::each_lane;
 
-// The times of n samples from sample `first` on. Signed numbers of 32 bits are made floats four at once.
-pub(crate) fn times_from(times: &mut [f32], first: usize, n: usize, unit: f32)
-    requires { (n ≤ length times.old) × (first + n ≤ 16777216) }
-    ensures { Lanes (timed first unit) n times.old times.new }
+// The times of samples from sample `first` on. Signed numbers of 32 bits are made floats four at once.
+pub(crate) fn times_from(times: &mut [f32], first: usize, unit: f32)
+    requires { first + length times.old ≤ 16777216 }
+    ensures { Lanes (timed first unit) (length times.old) times.old times.new }
 {
-    let mut j: usize = 0;
-    while j < n {
-        times[j] = (first + j) as i32 as f32 * unit;
-        j += 1;
-    }
+    each_lane(times, |j, _| (first + j) as i32 as f32 * unit);
 }
 
-// 0.0 in all lanes.
-pub(crate) fn clear(values: &mut [f32])
-    ensures { Lanes (always plus_zero) (length values.old) values.old values.new }
-{
-    let mut j: usize = 0;
-    while j < values.len() {
-        values[j] = 0.0;
-        j += 1;
-    }
-}
-
-// Sets the values of all lanes aside, from element `from` on.
-fn keep(saved: &mut [f32], values: &[f32], from: usize)
-    requires { from + length values.now ≤ length saved.old }
-    ensures { Keeps from (length values.now) values.now saved.old saved.new }
-{
-    let mut j: usize = 0;
-    while j < values.len() {
-        saved[from + j] = values[j];
-        j += 1;
-    }
-}
-
-// Adds what was set aside from element `from` on to all lanes.
-fn add_kept(values: &mut [f32], saved: &[f32], from: usize)
-    requires { from + length values.old ≤ length saved.now }
-    ensures { Lanes (plus_kept saved.now from) (length values.old) values.old values.new }
-{
-    let mut j: usize = 0;
-    while j < values.len() {
-        let x = values[j];
-        let kept = saved[from + j];
-        values[j] = x + kept;
-        j += 1;
-    }
-}
-
-// After an operator gave the lanes their values: the top entry loses one, or at 0 is added and removed. The depth afterwards.
+// After an operator gave the lanes their values: the top entry loses one, or at 0 is added and removed. The depth
+// afterwards.
 fn settle(counts: &mut [usize; 64], saved: &[f32], values: &mut [f32], depth: usize) -> usize
-    requires { (depth ≤ 64) × ((length counts.old ≡ 64) × ((length values.old ≤ 32) × (length saved.now ≡ 64 * length values.old))) }
+    requires depth { depth ≤ 64 }
+    requires lanes { length values.old ≤ 32 }
+    requires saved { length saved.now ≡ 64 * length values.old }
     ensures { SettlesLanes (length values.old) depth values.old counts.old saved.now values.new result counts.new }
 {
     if depth == 0 {
@@ -70,7 +32,8 @@ fn settle(counts: &mut [usize; 64], saved: &[f32], values: &mut [f32], depth: us
     let left = counts[top];
     if left == 0 {
         let from = top * values.len();
-        add_kept(values, saved, from);
+        let kept = &saved[from..from + values.len()];
+        each_lane(values, |j, x| x + kept[j]);
         return top;
     }
     counts[top] = left - 1;
@@ -89,8 +52,12 @@ pub(crate) fn step(
     f: f32,
     d: f32,
 ) -> usize
-    requires { (depth < 64) × ((length counts.old ≡ 64) × ((length values.old ≤ 32) × ((length saved.old ≡ 64 * length values.old) × (length times.now ≤ length values.old)))) }
-    ensures { StepsLanes table.now f d times.now (length values.old) command depth values.old counts.old saved.old values.new result counts.new saved.new }
+    requires depth { depth < 64 }
+    requires lanes { length values.old ≤ 32 }
+    requires saved { length saved.old ≡ 64 * length values.old }
+    requires times { length times.now ≤ length values.old }
+    ensures { StepsLanes table.now f d times.now (length values.old) command depth
+        values.old counts.old saved.old values.new result counts.new saved.new }
 {
     match command {
         Command::Operator(op) => {
@@ -100,8 +67,8 @@ pub(crate) fn step(
         Command::Stack(m) => {
             counts[depth] = m;
             let from = depth * values.len();
-            keep(saved, values, from);
-            clear(values);
+            saved[from..from + values.len()].copy_from_slice(values);
+            values.fill(0.0);
             depth + 1
         }
     }
@@ -117,24 +84,13 @@ fn mix(added: usize, i: usize, old: f32, v: f32) -> f32
     old + v
 }
 
-// Mixes n lanes into a slice from place i on.
-pub(crate) fn mix_lanes(
-    out: &mut [f32],
-    values: &[f32],
-    n: usize,
-    i: usize,
-    added: usize,
-    amplitude: f32,
-)
-    requires { (n ≤ length values.now) × (i + n ≤ length out.old) }
-    ensures { MixesLanes added amplitude i n values.now out.old out.new }
+// Mixes all lanes into a slice from place i on.
+pub(crate) fn mix_lanes(out: &mut [f32], values: &[f32], i: usize, added: usize, amplitude: f32)
+    requires { i + length values.now ≤ length out.old }
+    ensures { MixesLanes added amplitude i (length values.now) values.now out.old out.new }
 {
-    let mut j: usize = 0;
-    while j < n {
-        let at = i + j;
-        let old = out[at];
-        let value = values[j];
-        out[at] = mix(added, at, old, amplitude * value);
-        j += 1;
-    }
+    each_lane(
+        &mut out[i..i + values.len()],
+        |j, old| mix(added, i + j, old, amplitude * values[j]),
+    );
 }

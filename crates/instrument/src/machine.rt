@@ -1,12 +1,12 @@
 // The stack machine: an instrument's commands, run in order, give its value at one time of a note.
 
-ghost use Rattle.std.specs.Prelude.{◌≡◌, ◌*◌, ◌<◌, ◌≤◌, length};
+ghost use Rattle.std.specs.Prelude.{◌≡◌, ◌*◌, ◌<◌, ◌≤◌, length, EachIndex, slice_index_or};
+ghost use Rattle.std.specs.Float.{nan};
 ghost use Rattle.instrument.specs.Evaluation.{instrument_at};
 ghost use Rattle.instrument.specs.Fill.{count_from, filled};
-ghost use Rattle.instrument.specs.Lent.{filled_by};
+ghost use Rattle.instrument.specs.Lent.{instrument_by, filled_by};
 
-use crate::lanes::{clear, mix_lanes, step, times_from};
-use lines::names::least;
+use crate::lanes::{mix_lanes, step, times_from};
 use operator::operator::Operator;
 
 // One command: an operator works on the value, or the value is set aside for later.
@@ -30,90 +30,79 @@ pub struct Instrument {
     pub count: usize,
 }
 
+// The most samples that a note has.
+const MOST_SAMPLES: usize = 16777216;
+
+// How many lanes there are, and how many values they set aside at the most.
+const LANES: usize = 32;
+
+const SAVED: usize = 64 * LANES;
+
+// How many samples are few, and as much for those.
+const FEW_SAMPLES: usize = 96;
+
+const FEW_LANES: usize = 16;
+
+const FEW_SAVED: usize = 64 * FEW_LANES;
+
 // How many elements of a slice a note has samples for, from sample `first` on.
 fn room_from(first: usize, room: usize) -> usize
     ensures { result ≡ count_from first room }
 {
-    if first >= 16777216 {
-        return 0;
-    }
-    let left = 16777216 - first;
-    if room < left {
-        return room;
-    }
-    left
-}
-
-// Counts for a stack that is 64 deep.
-fn blank_counts() -> [usize; 64]
-    ensures { 64 ≡ length result }
-{
-    [0; 64]
-}
-
-// Room for what one lane sets aside.
-fn blank_stack() -> [f32; 64]
-    ensures { 64 ≡ length result }
-{
-    [0.0; 64]
-}
-
-// Room for what 16 lanes set aside.
-fn blank_few() -> [f32; 1024]
-    ensures { 1024 ≡ length result }
-{
-    [0.0; 1024]
-}
-
-// Room for what 32 lanes set aside.
-fn blank_saved() -> [f32; 2048]
-    ensures { 2048 ≡ length result }
-{
-    [0.0; 2048]
-}
-
-// A number for each of 32 lanes.
-fn blank_lanes() -> [f32; 32]
-    ensures { 32 ≡ length result }
-{
-    [0.0; 32]
+    room.min(MOST_SAMPLES.saturating_sub(first))
 }
 
 impl Instrument {
+    // The instrument's values in all lanes that have a time: its commands, run from nothing. `counts` and `saved` are
+    // theirs to use.
+    fn run(
+        &self,
+        table: &[u32; 1025],
+        counts: &mut [usize; 64],
+        saved: &mut [f32],
+        values: &mut [f32],
+        times: &[f32],
+        f: f32,
+        d: f32,
+    )
+        requires lanes { length values.old ≤ 32 }
+        requires saved { length saved.old ≡ 64 * length values.old }
+        requires times { length times.now ≤ length values.old }
+        ensures { EachIndex times.now (λ j.
+            slice_index_or values.new j nan ≡ instrument_by table.now f d (slice_index_or times.now j nan) self.now) }
+    {
+        values.fill(0.0);
+        let mut depth: usize = 0;
+        for slot in &self.commands[..self.count.min(64)] {
+            depth = step(
+                slot.command,
+                table,
+                counts,
+                saved,
+                values,
+                times,
+                depth,
+                f,
+                d,
+            );
+        }
+    }
+
     // The instrument's value at time t of a note of frequency f and duration d: its commands, run from
     // nothing. A count over 64 is taken as 64.
     pub fn eval(self, f: f32, d: f32, t: f32) -> f32
         ensures { result ≡ instrument_at f d t self }
     {
         let table = sine::quarter::table();
-        let mut counts = blank_counts();
-        let mut saved = blank_stack();
-        let times = [t];
+        let mut counts = [0usize; 64];
+        let mut saved = [0.0f32; 64];
         let mut values = [0.0f32; 1];
-        let most = least(self.count, 64);
-        let mut depth: usize = 0;
-        let mut k: usize = 0;
-        while k < most {
-            let slot = self.commands[k];
-            let command = slot.command;
-            depth = step(
-                command,
-                &table,
-                &mut counts,
-                &mut saved,
-                &mut values,
-                &times,
-                depth,
-                f,
-                d,
-            );
-            k += 1;
-        }
+        self.run(&table, &mut counts, &mut saved, &mut values, &[t], f, d);
         values[0]
     }
 
-    // Mixes the note's `room` samples from `first` on into a slice, as many at a time as there are lanes: `saved`, `values` and `times`
-    // are theirs to use.
+    // Mixes the note's `room` samples from `first` on into a slice, as many at a time as there are lanes: `saved`,
+    // `values` and `times` are theirs to use.
     fn spread(
         self,
         table: &[u32; 1025],
@@ -129,42 +118,26 @@ impl Instrument {
         first: usize,
         added: usize,
     )
-        requires { (room ≡ count_from first (length out.old)) × ((0 < length values.old) × ((length values.old ≤ 32) × ((length saved.old ≡ 64 * length values.old) × (length times.old ≡ length values.old)))) }
+        requires room { room ≡ count_from first (length out.old) }
+        requires some { 0 < length values.old }
+        requires lanes { length values.old ≤ 32 }
+        requires saved { length saved.old ≡ 64 * length values.old }
+        requires times { length times.old ≡ length values.old }
         ensures { out.new ≡ filled_by table.now self amplitude f d rate first added out.old }
     {
-        let mut counts = blank_counts();
+        let mut counts = [0usize; 64];
         let unit = 1.0 / std::num::nearest_u32_to_f32(rate);
-        let count = least(self.count, 64);
-        let mut i: usize = 0;
-        while i < room {
-            let n = least(room - i, values.len());
-            times_from(times, first + i, n, unit);
-            clear(values);
-            let mut depth: usize = 0;
-            let mut k: usize = 0;
-            while k < count {
-                let slot = self.commands[k];
-                let command = slot.command;
-                depth = step(
-                    command,
-                    table,
-                    &mut counts,
-                    saved,
-                    values,
-                    &times[..n],
-                    depth,
-                    f,
-                    d,
-                );
-                k += 1;
-            }
-            mix_lanes(out, values, n, i, added, amplitude);
-            i += n;
+        for i in (0..room).step_by(values.len()) {
+            let n = values.len().min(room - i);
+            let times = &mut times[..n];
+            times_from(times, first + i, unit);
+            self.run(table, &mut counts, saved, values, times, f, d);
+            mix_lanes(out, &values[..n], i, added, amplitude);
         }
     }
 
-    // `fill` by a lent table of the sine, for one that fills many slices: by `quarter::table` it is `fill`. Where the samples are few
-    // there are fewer lanes, since making room for many takes longer than they do.
+    // `fill` by a lent table of the sine, for one that fills many slices: by `quarter::table` it is `fill`. Where the
+    // samples are few there are fewer lanes, since making room for many takes longer than they do.
     pub fn fill_by(
         self,
         table: &[u32; 1025],
@@ -180,10 +153,10 @@ impl Instrument {
         ensures values { out.new ≡ filled_by table.now self amplitude f d rate first added out.old }
     {
         let room = room_from(first, out.len());
-        if room <= 96 {
-            let mut saved = blank_few();
-            let mut values = [0.0f32; 16];
-            let mut times = [0.0f32; 16];
+        if room <= FEW_SAMPLES {
+            let mut saved = [0.0f32; FEW_SAVED];
+            let mut values = [0.0f32; FEW_LANES];
+            let mut times = [0.0f32; FEW_LANES];
             self.spread(
                 table,
                 out,
@@ -200,9 +173,9 @@ impl Instrument {
             );
             return room;
         }
-        let mut saved = blank_saved();
-        let mut values = blank_lanes();
-        let mut times = blank_lanes();
+        let mut saved = [0.0f32; SAVED];
+        let mut values = [0.0f32; LANES];
+        let mut times = [0.0f32; LANES];
         self.spread(
             table,
             out,

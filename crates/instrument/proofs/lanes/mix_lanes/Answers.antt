@@ -1,25 +1,16 @@
--- `mix_lanes` mixes one lane after the other into the slice, whose filled front grows by one each time (`Filling`).
--- Assumes nothing.
-use Rattle.std.proofs.Common.{◌≡◌, ℕ, ◌-◌, ◌≤◌, subst, arith, rules}
-use Rattle.instrument.specs.Lanes.{MixesLanes}
-use Rattle.instrument.proofs.Filling.{mixes_none, mixes_more}
+-- `mix_lanes` mixes each lane into its place in the slice (`Filling`). Assumes nothing.
+use Rattle.std.proofs.Common.{◌+◌, length, get_or, ◌∙◌, arith, rules}
+use Rattle.std.proofs.lemmas.List.Edits.{length-between}
+use lib.Ieee.{nan, binary32, mul}
+use Rattle.sine.proofs.LaneLaws.{lanes_as, lanes_to}
+use Rattle.instrument.specs.Fill.{mixed}
+use Rattle.instrument.proofs.Filling.{mixes_part}
 use Rattle.instrument.proofs.lanes.mix_lanes.Goals as goal
-
-pub loop-j-init : goal.loop-j-init
-loop-j-init c = (omega arith, mixes_none _ _ _ _ _)
-
-pub loop-j-preserved : goal.loop-j-preserved
-loop-j-preserved c =
-    let a = c.args in
-    let l = c.loop-j in
-    (omega (arith, c.loop-j-test.true), mixes_more a.added a.amplitude a.i a.values.now a.out.now l.j l.out _ l.invariant.1 c.mix.ensures)
-
-pub shape_of-out : goal.shape_of-out
-shape_of-out c = c.loop-j.invariant.1.size
 
 pub returns : goal.returns
 returns c =
     let a = c.args in
-    let l = c.loop-j in
-    let e : l.j ≡ a.n = omega (arith, l.invariant.0, c.loop-j-test.false) in
-    subst (λ (k : ℕ). MixesLanes a.added a.amplitude a.i k a.values.now a.out.now l.out) e l.invariant.1
+    let n = length a.values.now in
+    mixes_part a.added a.amplitude a.i n a.values.now a.out.now c.each_lane.new.lanes c.requires
+    (lanes_to _ nan _ n _ _ (length-between a.out.now a.i (a.i + n) c.requires ∙ omega arith)
+    (lanes_as _ (λ j x. mixed a.added (a.i + j) x (mul binary32 a.amplitude (get_or a.values.now j nan))) nan _ _ _ (λ j x y l k. search rules) (c.each_lane.ensures nan)))

@@ -1,6 +1,6 @@
 -- `fill` is `fill_by` with document 01's table.
 -- Assumes nothing.
-use Rattle.std.proofs.Common.{ℕ, ◌-◌, List, ap, ◌∙◌, rules}
+use Rattle.std.proofs.Common.{ℕ, List, ap, ◌∙◌}
 use Rattle.instrument.specs.Lent.{filled_by}
 use Rattle.instrument.proofs.Lent.{filled_quarter}
 use Rattle.instrument.proofs.machine.Instrument.fill.Goals as goal
