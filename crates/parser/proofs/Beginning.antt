@@ -2,15 +2,18 @@
 use mathlib.Core.Path.{◌≡◌, refl, sym, ap, subst, ◌∙◌}
 use mathlib.Core.List.{List, [], ◌∷◌, map}
 use mathlib.Core.Option.{none}
-use Prim.Native.Nat.{ℕ, zero, suc, ◌+◌, ◌≤◌}
+use Prim.Native.Nat.{ℕ, ◌+◌}
 use native.Mathlib.Omega.{arith}
 use lib.ListN.{length, take, set, get_or}
 use lib.Seq.{get_or-set_same}
 use lib.Ieee.{Float, round, add, sub, mul, div, lt, of_bits, of_int}
+use Rattle.std.specs.Prelude.{Option, None, Some}
+use Rattle.sheet.specs.declared.refusal.Refusal.{Refusal}
+use Rattle.sheet.specs.Numbers.{number_of as refusal_number}
 use Rattle.text.specs.Quoted.{bytes}
 use Rattle.lines.specs.Lines.{lines_of}
 use Rattle.tree.specs.Lines.{Line, release_of}
-use Rattle.sheet.specs.Refusals.{Outcome, going, refused, ◌>>=◌, ◌>>◌, refuse◌on◌unless◌, refuse◌on◌if◌, refuse◌on◌without◌}
+use Rattle.sheet.specs.Refusals.{Outcome, going, refused, ◌>>=◌, ◌>>◌, refuse◌on◌unless◌, refuse◌on◌if◌}
 use Rattle.environment.specs.Environment.{at_the_start}
 use Rattle.blocks.specs.declared.block.Block.{Block}
 use Rattle.operators.specs.OperatorLines.{operator_lines, operators_read}
@@ -47,15 +50,15 @@ unfolding clipped
 plain_whole = refl
 
 module _ (b : Block) (fs : List Float) (ss : List ℕ) (e : block_outcome 1 b fs ss ≡ going plain) where
-  plain_accepted : b.refusal ≡ 0
+  plain_accepted : b.refusal ≡ None
   plain_accepted = go b.refusal refl
     where
       never : (n l : ℕ) → refused n l ≡ going plain → ⊥
       never n l q = let z : ◌≡◌ {A = ℕ} 0 1 = ap (λ (o : Outcome (List Line)). elim o [ going x ↦ 1 | refused i j ↦ 0 ]) q in absurd (omega (arith, z))
 
-      go : (k : ℕ) → b.refusal ≡ k → b.refusal ≡ 0
-      go zero q = q
-      go (suc k) q = absurd (never b.refusal (1 + b.count) (sym (block_refused 1 b fs ss (λ z. absurd (omega (arith, z, q)))) ∙ e))
+      go : (k : Option Refusal) → b.refusal ≡ k → b.refusal ≡ None
+      go None q = q
+      go (Some why) q = absurd (never (refusal_number why) (1 + b.count) (sym (block_refused 1 b fs ss why q) ∙ e))
 
   plain_lines : lines_in b.count fs ss ≡ plain
   plain_lines = same_given _ _ (sym (block_going 1 b fs ss plain_accepted) ∙ e)
@@ -71,7 +74,7 @@ module _ (zs : List ℕ) (xs : List Float) (ss zs' : List ℕ) (xs' : List Float
   read : block_outcome 1 b fs ts ≡ going plain
   read = q.read 1 ∙ plain_read
 
-  default_accepted : b.refusal ≡ 0
+  default_accepted : b.refusal ≡ None
   default_accepted = plain_accepted b fs ts read
 
   held : lines_held b.count fs ts ≡ plain
@@ -94,7 +97,7 @@ module _ (zs : List ℕ) (xs : List Float) (ss zs' : List ℕ) (xs' : List Float
       first [] l x = absurd (omega (arith, l))
       first (y ∷ ys) l x = refl
 
-  default_kept : (b.refusal ≡ 0 → zs' ≡ set zs 0 b.count) → (b.refusal ≡ 0 → rs' ≡ set rs 0 (release_of (lines_held b.count fs ts)))
+  default_kept : (b.refusal ≡ None → zs' ≡ set zs 0 b.count) → (b.refusal ≡ None → rs' ≡ set rs 0 (release_of (lines_held b.count fs ts)))
       → (lines_from zs' xs' ss' 0 1 ≡ plain ∷ []) × (take 1 rs' ≡ release_of plain ∷ [])
   default_kept e f = (default_lines (e default_accepted), default_release (f default_accepted))
 

@@ -3,6 +3,8 @@
 use mathlib.Core.Path.{◌≡◌, sym, ap, ap₂, ◌∙◌}
 use mathlib.Core.Option.{none}
 use mathlib.Core.List.{List}
+use Rattle.std.specs.Prelude.{None, Some}
+use Rattle.sheet.specs.declared.refusal.Refusal.{Refusal}
 use Prim.Native.Nat.{ℕ, ◌+◌, ◌≤◌, ◌<◌}
 use native.Mathlib.Omega.{arith}
 use lib.ListN.{length, drop, set}
@@ -39,7 +41,7 @@ module _ (mode : Mode) (s : List ℕ) (at i : ℕ) (b : Block) (fs : List Float)
   lz = kz ∙ high
 
   pub blocked : ((line : ℕ) → block_outcome line b ys zs ≡ block_read mode line (drop at s) (length (lent 192 i fs)) (length (lent 64 i ss)))
-      → (b.refusal ≡ 0 → lines_of (drop b.next s) ≡ drop b.count (lines_of (drop at s)))
+      → (b.refusal ≡ None → lines_of (drop b.next s) ≡ drop b.count (lines_of (drop at s)))
       → at ≤ b.next → (at ≤ length s → b.next ≤ length s) → b.count ≤ 32
       → Blocked mode s at i b fs ss (back 192 i fs ys) (back 64 i ss zs)
   blocked read lines onward inside few =
@@ -69,8 +71,8 @@ module _ (mode : Mode) (s : List ℕ) (at i : ℕ) (b : Block) (fs : List Float)
 -- ---- the instrument that they are kept as
 
 module _ (mode : Mode) (s : List ℕ) (at i : ℕ) (b : Block) (fs : List Float) (ss : List ℕ) (fs' : List Float) (ss' : List ℕ) (q : Blocked mode s at i b fs ss fs' ss') (c : Aside ss ss' fs fs') where
-  pub kept_refused : (b.refusal ≡ 0 → ⊥) → Kept mode s at i b fs ss fs' ss'
-  kept_refused n = record { block = q; macros = c.0; names = c.1.0; sizes = λ z. absurd (n z); releases = λ z. absurd (n z) }
+  pub kept_refused : (why : Refusal) → b.refusal ≡ Some why → Kept mode s at i b fs ss fs' ss'
+  kept_refused why e = record { block = q; macros = c.0; names = c.1.0; sizes = λ z. cc; releases = λ z. cc }
 
   module _ (h : i < 32) (x : Float) (e : x ≡ release_of (lines_held b.count (region 192 i fs') (region 64 i ss'))) where
     abbrev gs : List Float

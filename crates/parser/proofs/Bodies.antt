@@ -8,7 +8,7 @@ use native.Mathlib.Omega.{arith}
 use lib.Ieee.{lt}
 use Rattle.ieee.specs.Constants.{plus_zero, one}
 use Rattle.sheet.specs.Capacities.{nesting_most}
-use Rattle.sheet.specs.Refusals.{Outcome, going, ◌>>◌, refuse◌on◌if◌, refuse◌on◌without◌}
+use Rattle.sheet.specs.Refusals.{Outcome, going, ◌>>◌, refuse◌on◌if◌}
 use Rattle.sheet.proofs.Holds.{Holds, holds_going, holds_refused, holds_unless, holds_then, holds_after}
 use Rattle.sheet.proofs.Outcomes.{Numbered, numbered_going, numbered_refused, numbered_unless, numbered_then}
 use Rattle.environment.specs.declared.environment.Environment.{Environment}

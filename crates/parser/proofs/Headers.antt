@@ -26,6 +26,9 @@ use Rattle.bank.specs.Bank.{lines_at, lines_from}
 use Rattle.blocks.proofs.Kept.{lines_length}
 use Rattle.layout.proofs.Regions.{lent, back, lent_region, region_wide, back_length, back_here, back_beside}
 use Rattle.lines.specs.Names.{names_in}
+use Rattle.std.specs.Prelude.{None, Some}
+use Rattle.sheet.specs.declared.refusal.Refusal.{Refusal}
+use Rattle.sheet.specs.Numbers.{number_of as refusal_number}
 use Rattle.tables.specs.Tables.{header_of, header_line, number_of, headers_after}
 use Rattle.tables.proofs.NamesGrown.{names_grown}
 use Rattle.tables.proofs.Taken.{names_many}
@@ -33,7 +36,7 @@ use Rattle.strict.specs.declared.mode.Mode.{Mode}
 use Rattle.parser.specs.declared.sofar.Sofar.{Sofar}
 use Rattle.meaning.specs.Sheets.{Read, read_of, header_read}
 use Rattle.parser.specs.Columns.{Tables, tables_of, macro_column, name_column, size_column, release_column, tables_in, read_in, Fits, Tabled, Begins, Goes, Blocked, Kept, refused_at, passed_to}
-use Rattle.parser.proofs.Numbers.{At, header_at, at_refused, at_number, number_of_law}
+use Rattle.parser.proofs.Numbers.{At, refusal_some, header_at, at_refused, at_number, number_of_law}
 use Rattle.parser.proofs.Going.{lined, read_going, goes_refused, fits_passed}
 use Rattle.parser.proofs.Pieces.{before_lent, after_lent}
 use Rattle.parser.proofs.ReadLines.{OfLines, all_of_lines, held_whole}
@@ -76,17 +79,13 @@ few_names line name names =
     (λ a. holds_unless _ _ _ _ _ (λ b. holds_going (λ (x : List ℕ). (x ≡ name) × (length names + 1 < instruments_most)) name (refl, ltb-true _ _ b)))
 
 -- what the columns say of the lines
-pub block_going : (line : ℕ) (b : Block) (fs : List Float) (ss : List ℕ) → b.refusal ≡ 0 → block_outcome line b fs ss ≡ going (lines_in b.count fs ss)
+pub block_going : (line : ℕ) (b : Block) (fs : List Float) (ss : List ℕ) → b.refusal ≡ None → block_outcome line b fs ss ≡ going (lines_in b.count fs ss)
 unfolding block_outcome
 block_going line b fs ss e = rw (e, block_outcome)
 
-pub block_refused : (line : ℕ) (b : Block) (fs : List Float) (ss : List ℕ) → (b.refusal ≡ 0 → ⊥) → block_outcome line b fs ss ≡ refused b.refusal (line + b.count)
+pub block_refused : (line : ℕ) (b : Block) (fs : List Float) (ss : List ℕ) → (why : Refusal) → b.refusal ≡ Some why → block_outcome line b fs ss ≡ refused (refusal_number why) (line + b.count)
 unfolding block_outcome
-block_refused line b fs ss n = go b.refusal refl
-  where
-    go : (k : ℕ) → b.refusal ≡ k → block_outcome line b fs ss ≡ refused b.refusal (line + b.count)
-    go zero e = absurd (n e)
-    go (suc k) e = rw (e, block_outcome)
+block_refused line b fs ss why e = rw (e, block_outcome)
 
 -- ---- the header
 
@@ -171,16 +170,16 @@ module _ (mode : Mode) (s places : List ℕ) (r : Sofar) (fs : List Float) (is l
       abbrev own : List Line
       own = lines_in k.count (region 192 i xs') (region 64 i ss')
 
-      pub block_refuses : (u : Tables) → (k.refusal ≡ 0 → ⊥)
-          → Goes (header_read mode line text below before) (1 + length (operator_lines below)) s places r (refused_at r k.refusal (line + 1 + k.count)) fs is ls u
+      pub block_refuses : (u : Tables) (why : Refusal) → k.refusal ≡ Some why
+          → Goes (header_read mode line text below before) (1 + length (operator_lines below)) s places r (refused_at r (refusal_number why) (line + 1 + k.count)) fs is ls u
       unfolding header_read read_in
-      block_refuses u y =
-          goes_refused s places r fs is ls u _ _ k.refusal (line + 1 + k.count) y
+      block_refuses u why y =
+          goes_refused s places r fs is ls u _ _ (refusal_number why) (line + 1 + k.count) (refusal_some why)
           (then_going text (header_of line text known) _ accepted
-          ∙ then_refused k.refusal (line + 1 + k.count) (operators_read mode none (line + 1) 0 (operator_lines below)) _
-          (sym (q.read (line + 1)) ∙ block_refused (line + 1) k _ _ y))
+          ∙ then_refused (refusal_number why) (line + 1 + k.count) (operators_read mode none (line + 1) 0 (operator_lines below)) _
+          (sym (q.read (line + 1)) ∙ block_refused (line + 1) k _ _ why y))
 
-      module _ (y : k.refusal ≡ 0) (lx : length xs' ≡ length xs) (ly : length ss' ≡ length ss) where
+      module _ (y : k.refusal ≡ None) (lx : length xs' ≡ length xs) (ly : length ss' ≡ length ss) where
         read : operators_read mode none (line + 1) 0 (operator_lines below) ≡ going own
         read = sym (q.read (line + 1)) ∙ block_going (line + 1) k _ _ y
 
@@ -337,10 +336,10 @@ module _ (mode : Mode) (s places : List ℕ) (r : Sofar) (fs : List Float) (is l
           shape = λ j l no. c.shape j l no ∙ back_beside 64 34 ss ys wide as_long j (λ v. omega (arith, l, v));
         }
 
-    pub column_block_refuses : (u : Tables) → (k.refusal ≡ 0 → ⊥) → Came (refused_at r k.refusal (r.line + 1 + k.count)) u
-    column_block_refuses u y = block_refuses mode s places r fs is ls (macro_column ss) bs (name_column ss) (size_column ss) xs ss (release_column xs) end next n b w g told z k xs' ss' blocked u y
+    pub column_block_refuses : (u : Tables) (why : Refusal) → k.refusal ≡ Some why → Came (refused_at r (refusal_number why) (r.line + 1 + k.count)) u
+    column_block_refuses u why y = block_refuses mode s places r fs is ls (macro_column ss) bs (name_column ss) (size_column ss) xs ss (release_column xs) end next n b w g told z k xs' ss' blocked u why y
 
-    pub column_goes : k.refusal ≡ 0 → length xs' ≡ length xs → length ss' ≡ length ss → ys ≡ headers_after (header_line r.line s r.at end r.instruments (lent 64 34 ss)) s r.at end r.instruments (lent 64 34 ss)
+    pub column_goes : k.refusal ≡ None → length xs' ≡ length xs → length ss' ≡ length ss → ys ≡ headers_after (header_line r.line s r.at end r.instruments (lent 64 34 ss)) s r.at end r.instruments (lent 64 34 ss)
         → Came (passed_to r r.macros (r.instruments + 1) (r.line + 1 + k.count) k.next) (tables_in bs xs' ss')
     column_goes y lx ly en =
         let named : name_column ss' ≡ ys = q.names ∙ back_here 64 34 ss ys wide as_long in

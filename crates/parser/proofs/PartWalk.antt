@@ -1,5 +1,5 @@
 -- A part's line as the walk reads it: what its steps ask, and the reading behind it, which is changed in its place. Assumes nothing.
-use mathlib.Core.Path.{◌≡◌, refl, sym, ap, ap₂, subst, ◌∙◌}
+use mathlib.Core.Path.{◌≡◌, refl, sym, ap, subst, ◌∙◌}
 use mathlib.Core.Bool.{Bool, true, false}
 use mathlib.Core.List.{List}
 use Prim.Native.Nat.{ℕ, ◌+◌, ◌*◌, ◌-◌, ◌≤◌, ◌<◌, max}
@@ -19,7 +19,7 @@ use Rattle.environment.specs.declared.environment.Environment.{Environment}
 use Rattle.part.specs.declared.state.State.{State}
 use Rattle.part.specs.Body.{Book}
 use Rattle.part.specs.Columns.{book_in}
-use Rattle.meaning.specs.Sheets.{part_line, kind_of, taken_by, line_read}
+use Rattle.meaning.specs.Sheets.{kind_of, taken_by, line_read}
 use Rattle.strict.specs.declared.mode.Mode.{Mode}
 use Rattle.parser.specs.declared.parts.Parted.{Parted}
 use Rattle.parser.specs.declared.sofar.Sofar.{Sofar}
@@ -88,7 +88,7 @@ module _ (next : ℕ) (r : Sofar) (k : ℕ) (st : State) where
 
 -- ---- the line
 
-module _ (rate : ℕ) (s bs : List ℕ) (xs : List Float) (ss : List ℕ) (r : Sofar) (fs : List Float) (is ls : List ℕ) (end next : ℕ) (b : Begins s r end next) (g : Fits (place_column ls) r fs is ls) (t : Tabled r (tables_in bs xs ss)) (p : Parted) (o : OfPart s r.at end r.parts p ls) (own : p.named ≡ true) where
+module _ (rate : ℕ) (s bs : List ℕ) (xs : List Float) (ss : List ℕ) (r : Sofar) (fs : List Float) (is ls : List ℕ) (end next : ℕ) (b : Begins s r end next) (g : Fits (place_column ls) r fs is ls) (t : Tabled r (tables_in bs xs ss)) (p : Parted) (o : OfPart s r.at end r.parts p ls) where
   abbrev l : List ℕ
   l = between s r.at end
 
@@ -111,23 +111,23 @@ module _ (rate : ℕ) (s bs : List ℕ) (xs : List Float) (ss : List ℕ) (r : S
 
   walked : (mode : Mode) (q : Sofar) (fs' : List Float) (is' ls' : List ℕ) → Gone rate s bs xs ss r fs is ls end next b g t name refl (place_column ls') q fs' is' ls' → Walked mode q fs' is' ls'
   walked mode q fs' is' ls' =
-      part_stepped mode rate s (place_column ls) r fs is ls tables next (place_column ls') q fs' is' ls' tables (ap kind_of (sym (lined s r end next b).line) ∙ o.kind own)
+      part_stepped mode rate s (place_column ls) r fs is ls tables next (place_column ls') q fs' is' ls' tables (ap kind_of (sym (lined s r end next b).line) ∙ o.kind)
 
   -- there is no room for the part
   pub full_walked : 16 ≤ k → (q : Sofar) → q ≡ refused_at r 21 r.line → (mode : Mode) → Walked mode q fs is ls
-  full_walked h q e mode = walked mode q fs is ls (way_full rate s bs xs ss r fs is ls end next b g t name refl (o.two own) k (o.place own) h q e)
+  full_walked h q e mode = walked mode q fs is ls (way_full rate s bs xs ss r fs is ls end next b g t name refl o.two k o.place h q e)
 
   module _ (room : k < 16) (ls' : List ℕ) (w : NamedAt k r.parts p.from p.end ls ls') (long : length ls' ≡ length ls) where
     named_at : NamedAt k r.parts (r.at + name.from) (r.at + name.end) ls ls'
     named_at =
-        subst (λ (i : ℕ). NamedAt k r.parts (r.at + name.from) i ls ls') (o.ends own)
-        (subst (λ (i : ℕ). NamedAt k r.parts i p.end ls ls') (o.begins own) w)
+        subst (λ (i : ℕ). NamedAt k r.parts (r.at + name.from) i ls ls') o.ends
+        (subst (λ (i : ℕ). NamedAt k r.parts i p.end ls ls') o.begins w)
 
     asked : (k ≤ r.parts)
         × ((r.refusal ≡ 0)
         × ((r.line ≤ 2000000)
         × ((k < (with_part r k).parts) × (Fits (place_column ls') (with_part r k) fs is ls' × Tabled r tables))))
-    asked = way_asks rate s bs xs ss r fs is ls end next b g t name refl (o.two own) k (o.place own) room ls' named_at long
+    asked = way_asks rate s bs xs ss r fs is ls end next b g t name refl o.two k o.place room ls' named_at long
 
     -- the part is there, or is the next one; what it has fits its place in the arrays, and its notes are among all
     pub part_there : (k ≤ r.parts) × ((k < 16) × ((length r.envs ≡ 16) × ((length r.counts ≡ 16) × ((length r.depths ≡ 16) × (k < r.parts → get_or r.counts k 0 ≤ r.all)))))
@@ -147,14 +147,14 @@ module _ (rate : ℕ) (s bs : List ℕ) (xs : List Float) (ss : List ℕ) (r : S
       -- the body is what follows the name
       body_is : between s p.end end ≡ take (length l - name.end) (drop name.end l)
       body_is =
-          ap (λ (i : ℕ). between s i end) (o.ends own) ∙ sym (between_rest s r.at end name.end)
+          ap (λ (i : ℕ). between s i end) o.ends ∙ sym (between_rest s r.at end name.end)
           ∙ sym (take_all (length l - name.end) (drop name.end l) (le_of_eq (length-drop name.end l)))
 
       module _ (q : State) (gs : List Float) (js ms : List ℕ) (c : BodyCame (body_at book r.line (between s p.end end) k st fs is ls') k st q fs is ls' gs js ms) (kept : place_column ms ≡ place_column ls') where
         behind : (u : Sofar) → Passed next (stored_as (with_part r k) k q) u → (mode : Mode) → Walked mode u gs js ms
         behind u h mode =
             walked mode u gs js ms
-            (way_played rate s bs xs ss r fs is ls end next b g t name refl (o.two own) k (o.place own) room ls' named_at long u gs js ms
+            (way_played rate s bs xs ss r fs is ls end next b g t name refl o.two k o.place room ls' named_at long u gs js ms
             (line_passes r k book (take (length l - name.end) (drop name.end l)) next fs is ls' gs js ms asked.1.1.1.0 asked.1.0 st its_state q
             (subst (λ (x : List ℕ). BodyCame (body_at book r.line x k st fs is ls') k st q fs is ls' gs js ms) body_is c) u h kept))
 

@@ -1,5 +1,5 @@
 -- The ways out of a part's line as steps of the walk: a line without a name, one for which there is no room, and one that is played. Assumes nothing.
-use mathlib.Core.Path.{◌≡◌, refl, ap, subst, sym}
+use mathlib.Core.Path.{◌≡◌, ap, subst, sym}
 use mathlib.Core.Bool.{true, false}
 use mathlib.Core.List.{List}
 use Prim.Native.Nat.{ℕ, ◌+◌, ◌*◌, ◌-◌, ◌≤◌, ◌<◌}
@@ -16,7 +16,7 @@ use Rattle.meaning.specs.Sheets.{part_read}
 use Rattle.parser.specs.declared.sofar.Sofar.{Sofar}
 use Rattle.parser.specs.Columns.{macro_column, name_column, size_column, release_column, place_column, tables_in, read_in, Fits, Tabled, Begins, Goes, refused_at, passed_to}
 use Rattle.parser.specs.PartSteps.{NamedAt}
-use Rattle.parser.proofs.PartStates.{with_part, Passed, LinePassed, Came}
+use Rattle.parser.proofs.PartStates.{with_part, Passed, LinePassed}
 use Rattle.parser.proofs.Going.{lined, line_small}
 use Rattle.parser.proofs.PartLines.{StepCame, step_bare, step_full, step_known}
 use Rattle.parser.proofs.PartReads.{part_passed}

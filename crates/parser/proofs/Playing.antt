@@ -25,7 +25,7 @@ use Rattle.layout.specs.Regions.{region}
 use Rattle.layout.specs.Layout.{notes_at, notes_from}
 use Rattle.layout.proofs.Regions.{lent, back, lent_region, region_wide, back_here, back_beside, back_length}
 use Rattle.parser.specs.declared.sofar.Sofar.{Sofar}
-use Rattle.meaning.specs.Parts.{NamedPart, Played, notes_of, with_part_named, line_played}
+use Rattle.meaning.specs.Parts.{NamedPart, Played, notes_of, with_part_named}
 use Rattle.parser.specs.Columns.{place_column, part_at, parts_from, Fits, refused_at}
 use Rattle.parser.specs.PartSteps.{Beside, BodyCame, ReadyAt, body_at}
 use Rattle.parser.proofs.PartStates.{state_of, kept_with, stored_as, called_as, LineCame, played_in, played_outcome, Came}

@@ -1,7 +1,7 @@
 -- What the code keeps while a sheet is read, in the terms of `Parts.antt` and `Sheets.antt`: each part has its regions of the columns of notes and of open
 -- loops and its place in the arrays of a `Sofar`; names are places in the source. What stands past a count says nothing. Private contracts of the functions
 -- that read lines cite this, and no public one. Assumes nothing.
-use Rattle.std.specs.Prelude.{◌≡◌, length, take, drop, set, replicate, Float}
+use Rattle.std.specs.Prelude.{◌≡◌, Result, Ok, Err, None, length, take, drop, set, replicate, Float}
 use mathlib.Core.List.{List, [], ◌∷◌, map}
 use Rattle.std.proofs.Math.Option.{none}
 use Prim.Native.Nat.{ℕ, zero, suc, ◌+◌, ◌*◌, ◌≤◌, ◌<◌}
@@ -10,6 +10,8 @@ use Rattle.lines.specs.Lines.{lines_of, line_at}
 use Rattle.lines.specs.Names.{between, names_in}
 use Rattle.tree.specs.Lines.{release_of}
 use Rattle.sheet.specs.Capacities.{source_most, parts_most, notes_most, loops_most, macros_most, instruments_most, operators_most}
+use Rattle.sheet.specs.declared.refusal.Refusal.{Refusal}
+use Rattle.sheet.specs.Numbers.{number_of}
 use Rattle.sheet.specs.Refusals.{Outcome, going, refused}
 use Rattle.environment.specs.declared.environment.Environment.{Environment}
 use Rattle.environment.specs.Environment.{at_the_start}
@@ -159,7 +161,7 @@ pub record Goes (o : Outcome Read) (n : ℕ) (s places : List ℕ) (r q : Sofar)
 pub record Blocked (mode : Mode) (s : List ℕ) (at i : ℕ) (b : Block) (fs : List Float) (ss : List ℕ) (fs' : List Float) (ss' : List ℕ) : Type 0 where
   pub read : (line : ℕ)
       → block_outcome line b (region (6 * operators_most) i fs') (region (2 * operators_most) i ss') ≡ operators_read mode none line 0 (operator_lines (lines_of (drop at s)))
-  pub lines : b.refusal ≡ 0 → lines_of (drop b.next s) ≡ drop b.count (lines_of (drop at s))
+  pub lines : b.refusal ≡ None → lines_of (drop b.next s) ≡ drop b.count (lines_of (drop at s))
   pub few : b.count ≤ operators_most
   pub onward : at ≤ b.next
   pub inside : at ≤ length s → b.next ≤ length s
@@ -176,8 +178,8 @@ pub record Kept (mode : Mode) (s : List ℕ) (at i : ℕ) (b : Block) (fs : List
   pub block : Blocked mode s at i b fs ss fs' ss'
   pub macros : macro_column ss' ≡ macro_column ss
   pub names : name_column ss' ≡ name_column ss
-  pub sizes : b.refusal ≡ 0 → size_column ss' ≡ set (size_column ss) i b.count
-  pub releases : b.refusal ≡ 0
+  pub sizes : b.refusal ≡ None → size_column ss' ≡ set (size_column ss) i b.count
+  pub releases : b.refusal ≡ None
       → release_column fs' ≡ set (release_column fs) i (release_of (lines_held b.count (region (6 * operators_most) i fs') (region (2 * operators_most) i ss')))
 
 -- ---- changes of a reading
@@ -253,3 +255,10 @@ nothing_sofar =
       line = 1;
       at = 0;
     }
+
+-- ---- the end
+
+-- what a test of the whole makes of a reading: it stands, or it is refused on no line
+abbrev pub ending : Result (Unit {0}) Refusal → Read → Outcome Read
+ending (Ok x) r = going r
+ending (Err why) r = refused (number_of why) 0

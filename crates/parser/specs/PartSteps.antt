@@ -1,6 +1,6 @@
 -- What the pieces of a part's line promise: which part the line names, the state that this part is read on from, and the regions of the columns behind a body.
 -- Private contracts cite this, and no public one. Assumes nothing.
-use Rattle.std.specs.Prelude.{◌≡◌, true, false, List, ℕ, ◌+◌, ◌*◌, ◌-◌, ◌≤◌, ◌<◌, ltb, length, take, Float}
+use Rattle.std.specs.Prelude.{Option, None, Some, ◌≡◌, true, false, List, ℕ, ◌+◌, ◌*◌, ◌-◌, ◌≤◌, ◌<◌, ltb, length, take, Float}
 use Rattle.lines.specs.Names.{between, names_in, place_among}
 use Rattle.lines.specs.Tokens.{name_at}
 use Rattle.sheet.specs.Capacities.{parts_most, notes_most, loops_most}
@@ -18,15 +18,19 @@ use Rattle.parser.specs.Columns.{place_column}
 
 -- ---- the part
 
--- which part a line names: it is a part's, with a name and a body, and the name's place among those of n parts; or it is none of that
+-- which part a line names: it is a part's, with a name and a body, and the name's place among those of n parts
 pub record OfPart (s : List ℕ) (at end n : ℕ) (p : Parted) (ls : List ℕ) : Type 0 where
-  pub bare : p.named ≡ false → kind_of (between s at end) ≡ part_line → (name_at (between s at end)).two ≡ false
-  pub kind : p.named ≡ true → kind_of (between s at end) ≡ part_line
-  pub two : p.named ≡ true → (name_at (between s at end)).two ≡ true
-  pub place : p.named ≡ true
-      → p.place ≡ place_among (between (between s at end) (name_at (between s at end)).from (name_at (between s at end)).end) (names_in s (take (2 * n) (place_column ls)))
-  pub begins : p.named ≡ true → p.from ≡ at + (name_at (between s at end)).from
-  pub ends : p.named ≡ true → p.end ≡ at + (name_at (between s at end)).end
+  pub kind : kind_of (between s at end) ≡ part_line
+  pub two : (name_at (between s at end)).two ≡ true
+  pub place :
+      p.place ≡ place_among (between (between s at end) (name_at (between s at end)).from (name_at (between s at end)).end) (names_in s (take (2 * n) (place_column ls)))
+  pub begins : p.from ≡ at + (name_at (between s at end)).from
+  pub ends : p.end ≡ at + (name_at (between s at end)).end
+
+-- or it is none of that
+abbrev pub PartNamed : (s : List ℕ) (at end n : ℕ) (ls : List ℕ) → Option Parted → Type 0
+PartNamed s at end n ls (Some p) = OfPart s at end n p ls
+PartNamed s at end n ls None = kind_of (between s at end) ≡ part_line → (name_at (between s at end)).two ≡ false
 
 -- the name of the part k has its places in the column, where n parts were there before
 pub record NamedAt (k n from end : ℕ) (ls ls' : List ℕ) : Type 0 where

@@ -8,14 +8,18 @@ ghost use Rattle.bank.specs.Bank.{lines_from};
 ghost use Rattle.parser.specs.declared.sofar.Sofar.{Sofar};
 ghost use Rattle.meaning.specs.Layout.{laid_out, sheet_of};
 ghost use Rattle.meaning.specs.Sheets.{ended, any_open};
-ghost use Rattle.parser.specs.Columns.{Tables, tables_of, tables_in, parts_from, read_in, read_outcome, Fits, Tabled};
+ghost use Rattle.parser.specs.Columns.{Tables, ending, tables_of, tables_in, parts_from, read_in, read_outcome, Fits, Tabled};
 
+use crate::parts::PARTS;
 use crate::sofar::Sofar;
 use bank::instruments::table_of;
 use layout::parts::{counts_of, longest, notes_of};
-use lines::names::least;
 use meaning::reading::Reading;
+use sheet::refusal::Refusal;
 use sheet::sheet::Sheet;
+
+// The most samples of a sheet.
+const LONGEST: u64 = 2000000000;
 
 // The sheet of a refusal: no parts, notes or instruments.
 fn empty_sheet() -> Sheet
@@ -38,8 +42,8 @@ pub(crate) fn refused_reading(refusal: u32, line: usize) -> Reading
     ensures { result ≡ laid_out (refused refusal line) }
 {
     Reading {
-        refusal: refusal,
-        line: line,
+        refusal,
+        line,
         steps: 0,
         sheet: empty_sheet(),
     }
@@ -49,36 +53,36 @@ pub(crate) fn refused_reading(refusal: u32, line: usize) -> Reading
 fn any_open(depths: [usize; 16], parts: usize) -> bool
     ensures { (s places : List ℕ) (q : Sofar) (fs : List Float) (is ls : List ℕ) → q.depths ≡ depths → result ≡ any_open (parts_from s places q fs is ls 0 (min parts parts_most)) }
 {
-    let most = least(parts, 16);
-    let mut k = 0;
-    while k < most {
+    for k in 0..parts.min(PARTS) {
         if depths[k] > 0 {
             return true;
         }
-        k += 1;
     }
     false
 }
 
-// The number of the refusal at the end, 0 for none.
-fn end_refusal(floats: &[f32], bytes: &[u8], releases: &[f32], q: Sofar, rate: u32) -> u32
-    ensures { (s places ls : List ℕ) (t : Tables) → Fits places q floats.now bytes.now ls → releases.now ≡ map release_of (lines_from t.sizes t.numbers t.shape 0 (q.instruments + 1)) → (result ≡ 0 → ended rate (read_in s places q floats.now bytes.now ls t) ≡ going (read_in s places q floats.now bytes.now ls t)) × ((result ≡ 0 → ⊥) → ended rate (read_in s places q floats.now bytes.now ls t) ≡ refused result 0) }
+// Whether the end of the sheet refuses it.
+fn end_refusal(
+    floats: &[f32],
+    bytes: &[u8],
+    releases: &[f32],
+    q: Sofar,
+    rate: u32,
+) -> Result<(), Refusal>
+    ensures { (s places ls : List ℕ) (t : Tables) → Fits places q floats.now bytes.now ls → releases.now ≡ map release_of (lines_from t.sizes t.numbers t.shape 0 (q.instruments + 1)) → ended rate (read_in s places q floats.now bytes.now ls t) ≡ ending result (read_in s places q floats.now bytes.now ls t) }
 {
-    let parts = q.parts;
-    let depths = q.depths;
-    let counts = q.counts;
-    let open = any_open(depths, parts);
-    let end = longest(floats, bytes, counts, parts, releases, rate);
-    if parts == 0 {
-        return 25;
+    let open = any_open(q.depths, q.parts);
+    let end = longest(floats, bytes, q.counts, q.parts, releases, rate);
+    if q.parts == 0 {
+        return Err(Refusal::NoPart);
     }
     if open {
-        return 26;
+        return Err(Refusal::LoopOpen);
     }
-    if end > 2000000000 {
-        return 27;
+    if end > LONGEST {
+        return Err(Refusal::SheetTooLong);
     }
-    0
+    Ok(())
 }
 
 // The reading without a refusal, of `instruments` instruments. It is not compiled into its caller, where
@@ -95,17 +99,15 @@ fn laid(
 ) -> Reading
     ensures { (s places ls ms bs ns : List ℕ) (rs : List Float) → Fits places q floats.now bytes.now ls → Tabled q (tables_of ms bs ns sizes.now numbers.now shape.now rs) → instruments ≡ q.instruments + 1 → result ≡ laid_out (going (read_in s places q floats.now bytes.now ls (tables_of ms bs ns sizes.now numbers.now shape.now rs))) }
 {
-    let parts = q.parts;
-    let counts = q.counts;
     Reading {
         refusal: 0,
         line: 0,
         steps: q.steps,
         sheet: Sheet {
-            parts: parts,
-            counts: counts_of(counts, parts),
-            notes: notes_of(floats, bytes, counts, parts),
-            instruments: instruments,
+            parts: q.parts,
+            counts: counts_of(q.counts, q.parts),
+            notes: notes_of(floats, bytes, q.counts, q.parts),
+            instruments,
             table: table_of(numbers, shape, sizes, instruments),
         },
     }
@@ -128,10 +130,16 @@ pub(crate) fn finished(
     }
     let instruments = q.instruments + 1;
     let releases = &numbers[6144..6144 + instruments];
-    let number = end_refusal(floats, bytes, releases, q, rate);
-    if number != 0 {
-        return refused_reading(number, 0);
+    match end_refusal(floats, bytes, releases, q, rate) {
+        Err(why) => refused_reading(why.number(), 0),
+        Ok(()) => laid(
+            floats,
+            bytes,
+            numbers,
+            shape,
+            &shape[2240..2272],
+            instruments,
+            q,
+        ),
     }
-    let sizes = &shape[2240..2272];
-    laid(floats, bytes, numbers, shape, sizes, instruments, q)
 }

@@ -64,7 +64,7 @@ fn kept(
     ensures { Kept mode source.now at i result numbers.old shape.old numbers.new shape.new }
 {
     let b = block_at(source, at, numbers, shape, i, mode);
-    if b.refusal != 0 {
+    if let Some(_) = b.refusal {
         return b;
     }
     let release = release_at(numbers, shape, i, b.count);
@@ -96,14 +96,14 @@ pub(crate) fn header_step(
     ensures { (places : List ℕ) (fs : List Float) (is ls bs : List ℕ) → Fits places r fs is ls → Tabled r (tables_in bs numbers.old shape.old) → Goes (header_read mode r.line (line_of (drop r.at source.now)) (lines_of (drop next source.now)) (read_in source.now places r fs is ls (tables_in bs numbers.old shape.old))) (1 + length (operator_lines (lines_of (drop next source.now)))) source.now places r result fs is ls (tables_in bs numbers.new shape.new) }
 {
     let i = r.instruments + 1;
-    let number = header_line(source, r.at, end, &mut shape[2176..2240], r.instruments);
-    if number != 0 {
-        return refused(r, number, r.line);
+    let names = &mut shape[2176..2240];
+    if let Err(why) = header_line(source, r.at, end, names, r.instruments) {
+        return refused(r, why.number(), r.line);
     }
     let b = kept(source, next, numbers, shape, i, mode);
     let line = r.line + 1 + b.count;
-    if b.refusal != 0 {
-        return refused(r, b.refusal, line);
+    if let Some(why) = b.refusal {
+        return refused(r, why.number(), line);
     }
     let mut q = r;
     q.instruments = i;

@@ -2,15 +2,20 @@
 
 ghost use Rattle.std.specs.Prelude.{◌≡◌, List, ℕ, ◌+◌, ◌*◌, ◌≤◌, ◌<◌, length, take, drop, get_or, true, false};
 ghost use Rattle.lines.specs.Names.{names_in, place_among};
+ghost use Rattle.sheet.specs.Capacities.{parts_most};
+ghost use Rattle.environment.specs.declared.environment.Environment.{Environment};
 ghost use Rattle.part.specs.Columns.{book_in};
 ghost use Rattle.meaning.specs.Sheets.{kind_of, part_line};
 ghost use Rattle.parser.specs.Columns.{macro_column, name_column, release_column, place_column};
-ghost use Rattle.parser.specs.PartSteps.{state_from, OfPart, NamedAt, ReadyAt, body_at, BodyCame};
+ghost use Rattle.parser.specs.PartSteps.{state_from, PartNamed, NamedAt, ReadyAt, body_at, BodyCame};
 
-use environment::environment::Environment;
+use crate::sofar::Sofar;
 use lines::names::{name_at, place_named};
 use part::part::read_part;
 use part::state::State;
+
+// The most parts of a sheet.
+pub(crate) const PARTS: usize = 16;
 
 // The place of a name among those of the first `parts` parts, `parts` where it is new.
 fn place_of(source: &[u8], loops: &[usize], parts: usize, name: &[u8]) -> usize
@@ -26,30 +31,18 @@ fn place_of(source: &[u8], loops: &[usize], parts: usize, name: &[u8]) -> usize
 fn is_part(l: &[u8]) -> bool
     ensures { (result ≡ true → kind_of l.now ≡ part_line) × (result ≡ false → kind_of l.now ≡ part_line → ⊥) }
 {
-    if l.len() == 0 {
+    if l.is_empty() {
         return false;
     }
-    let b = l[0];
-    if b == 59 {
-        return false;
+    match l[0] {
+        b';' | b'@' | b'#' | b'!' => false,
+        _ => true,
     }
-    if b == 64 {
-        return false;
-    }
-    if b == 35 {
-        return false;
-    }
-    if b == 33 {
-        return false;
-    }
-    true
 }
 
-// Which part a line names.
+// Which part a line names that is a part's, with a name and a body.
 #[derive(Clone, Copy)]
 pub struct Parted {
-    // Whether the line is a part's, with a name and a body.
-    pub named: bool,
     // The part's place, 16 or more where there is no room for it.
     pub place: usize,
     // From where to where its name stands in the source; the body is what follows.
@@ -57,40 +50,30 @@ pub struct Parted {
     pub end: usize,
 }
 
-// A line that names no part.
-fn unnamed() -> Parted
-    ensures { result.named ≡ false }
-{
-    Parted {
-        named: false,
-        place: 0,
-        from: 0,
-        end: 0,
-    }
-}
-
 // Which part the line from `at` to `end` of the source names, where there are so many parts.
-pub(crate) fn part_of(source: &[u8], at: usize, end: usize, loops: &[usize], parts: usize) -> Parted
+pub(crate) fn part_of(
+    source: &[u8],
+    at: usize,
+    end: usize,
+    loops: &[usize],
+    parts: usize,
+) -> Option<Parted>
     requires { (at ≤ end) × ((end ≤ length source.now) × ((parts ≤ 16) × (length loops.now ≡ 288))) }
-    ensures { OfPart source.now at end parts result loops.now }
+    ensures { PartNamed source.now at end parts loops.now result }
 {
     let l = &source[at..end];
     if !is_part(l) {
-        return unnamed();
+        return None;
     }
     let name = name_at(l);
-    let from = name.from;
-    let to = name.end;
-    let two = name.two;
-    if !two {
-        return unnamed();
+    if !name.two {
+        return None;
     }
-    Parted {
-        named: true,
-        place: place_of(source, loops, parts, &l[from..to]),
-        from: at + from,
-        end: at + to,
-    }
+    Some(Parted {
+        place: place_of(source, loops, parts, &l[name.from..name.end]),
+        from: at + name.from,
+        end: at + name.end,
+    })
 }
 
 // The places of the name of the part k, from `from` to `end` of the source, where it is not one of the `parts` parts that are there.
@@ -106,39 +89,30 @@ pub(crate) fn named(loops: &mut [usize], k: usize, parts: usize, from: usize, en
     loops[at + 1] = end;
 }
 
-// The state that the part k is read on from, where there are so many parts: what it has, or that of a new part.
-pub(crate) fn state_of(
-    k: usize,
-    parts: usize,
-    env: Environment,
-    count: usize,
-    depth: usize,
-    start: Environment,
-    all: usize,
-    steps: usize,
-) -> State
-    requires { k < parts → count ≤ all }
-    ensures { result ≡ state_from k parts env count depth start all steps }
+// The state that the part k is read on from: what it has, or that of a new part.
+pub(crate) fn state_of(r: &Sofar, k: usize) -> State
+    requires { (k < parts_most) × (k < r.now.parts → get_or r.now.counts k 0 ≤ r.now.all) }
+    ensures { (d : Environment) → result ≡ state_from k r.now.parts (get_or r.now.envs k d) (get_or r.now.counts k 0) (get_or r.now.depths k 0) r.now.start r.now.all r.now.steps }
 {
-    if k >= parts {
-        return State {
-            env: start,
-            count: 0,
-            others: all,
-            depth: 0,
-            steps,
-            refusal: 0,
-            line: 0,
-        };
-    }
-    State {
-        env,
-        count,
-        others: all - count,
-        depth,
-        steps,
+    let new = State {
+        env: r.start,
+        count: 0,
+        others: r.all,
+        depth: 0,
+        steps: r.steps,
         refusal: 0,
         line: 0,
+    };
+    if k >= r.parts {
+        return new;
+    }
+    let count = r.counts[k];
+    State {
+        env: r.envs[k],
+        count,
+        others: r.all - count,
+        depth: r.depths[k],
+        ..new
     }
 }
 

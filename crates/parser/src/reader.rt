@@ -1,35 +1,27 @@
 // The reader of sheets (the Rust's `parser.rs`): what a source's bytes mean, or why they are refused.
 
-ghost use Rattle.std.specs.Prelude.{◌≡◌, max};
+ghost use Rattle.std.specs.Prelude.{◌≡◌};
 ghost use Rattle.meaning.specs.Layout.{reading_of};
 ghost use Rattle.meaning.specs.Sheets.{all_below128};
 
 use crate::ending::{finished, refused_reading};
 use crate::walk::walk;
 use meaning::reading::Reading;
+use sheet::refusal::Refusal;
 use strict::mode::Mode;
 
-// The larger of two bytes.
-fn larger_byte(a: u8, b: u8) -> u8
-    ensures { result ≡ max a b }
-{
-    if a < b {
-        return b;
-    }
-    a
-}
+// The first byte that is no character of ASCII.
+const ASCII_END: u8 = 128;
 
 // Whether all bytes are below 128. It looks for the largest and has no early end, so that it can be compiled to look at many bytes at once.
 fn all_below_128(source: &[u8]) -> bool
     ensures { result ≡ all_below128 source.now }
 {
     let mut most: u8 = 0;
-    let mut i = 0;
-    while i < source.len() {
-        most = larger_byte(most, source[i]);
-        i += 1;
+    for b in source {
+        most = most.max(*b);
     }
-    most < 128
+    most < ASCII_END
 }
 
 // What a source is read as in a mode: a refusal with its line, or a sheet with the steps that were read.
@@ -39,10 +31,10 @@ pub fn read(source: &[u8], mode: Mode) -> Reading
     ensures { result ≡ reading_of mode 44100 source.now }
 {
     if source.len() > 32768 {
-        return refused_reading(1, 0);
+        return refused_reading(Refusal::SourceTooLong.number(), 0);
     }
     if !all_below_128(source) {
-        return refused_reading(2, 0);
+        return refused_reading(Refusal::NotAscii.number(), 0);
     }
     let rate = 44100;
     let mut bodies = [0usize; 128];

@@ -1,23 +1,14 @@
 // A run of parts' lines, one after the other.
 
-ghost use Rattle.std.specs.Prelude.{◌≡◌, ◌+◌, ◌≤◌, max, length};
+ghost use Rattle.std.specs.Prelude.{◌≡◌, ◌+◌, ◌≤◌, length};
 ghost use Rattle.strict.specs.declared.mode.Mode.{Mode};
 ghost use Rattle.parser.specs.Columns.{place_column, tables_in};
 ghost use Rattle.parser.specs.Walks.{rest_read, Walking, PartsRead};
 
-use crate::parts::{named, part_of, played, state_of};
+use crate::parts::{PARTS, named, part_of, played, state_of};
 use crate::sofar::Sofar;
 use lines::lines::line_at;
-
-// The larger of two numbers of parts.
-fn larger(a: usize, b: usize) -> usize
-    ensures { result ≡ max a b }
-{
-    if a < b {
-        return b;
-    }
-    a
-}
+use sheet::refusal::Refusal;
 
 // All lines up to the next one that names no part, or to the first refusal. The reading is changed in its place: handed on by value for each line, it would be
 // copied for each. Nothing in a body is strict, so that the mode says nothing here.
@@ -39,28 +30,22 @@ pub(crate) fn part_lines(
         let at = r.at;
         let line = line_at(source, at);
         let end = line.end;
-        let p = part_of(source, at, end, loops, r.parts);
-        if !p.named {
+        let Some(p) = part_of(source, at, end, loops, r.parts) else {
             return r;
-        }
+        };
         let k = p.place;
-        if k >= 16 {
-            r.refusal = 21;
+        if k >= PARTS {
+            r.refusal = Refusal::Full.number();
             return r;
         }
-        let body = p.end;
-        named(loops, k, r.parts, p.from, body);
-        let env = r.envs[k];
-        let count = r.counts[k];
-        let depth = r.depths[k];
-        let start = r.start;
-        let before = state_of(k, r.parts, env, count, depth, start, r.all, r.steps);
+        named(loops, k, r.parts, p.from, p.end);
+        let before = state_of(&r, k);
         let st = played(
             source,
             bodies,
             numbers,
             shape,
-            &source[body..end],
+            &source[p.end..end],
             floats,
             bytes,
             loops,
@@ -76,14 +61,13 @@ pub(crate) fn part_lines(
             r.line = st.line;
             return r;
         }
-        let after = st.env;
-        r.envs[k] = after;
+        r.envs[k] = st.env;
         r.counts[k] = st.count;
         r.depths[k] = st.depth;
-        r.parts = larger(r.parts, k + 1);
+        r.parts = r.parts.max(k + 1);
         r.all = st.others + st.count;
         r.steps = st.steps;
-        r.line = r.line + 1;
+        r.line += 1;
         r.at = line.next;
     }
     r

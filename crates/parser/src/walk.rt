@@ -33,20 +33,13 @@ fn line_step(
     if at >= end {
         return passed(r, next);
     }
-    let b = source[at];
-    if b == 59 {
-        return passed(r, next);
+    match source[at] {
+        b';' => passed(r, next),
+        b'@' => header_step(source, end, next, numbers, shape, r, mode),
+        b'#' => directive_step(source, end, next, r, mode),
+        b'!' => macro_step(source, end, next, bodies, shape, r),
+        _ => passed(r, next),
     }
-    if b == 64 {
-        return header_step(source, end, next, numbers, shape, r, mode);
-    }
-    if b == 35 {
-        return directive_step(source, end, next, r, mode);
-    }
-    if b == 33 {
-        return macro_step(source, end, next, bodies, shape, r);
-    }
-    passed(r, next)
 }
 
 // Nothing is read yet.

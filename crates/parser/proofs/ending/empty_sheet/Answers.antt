@@ -1,5 +1,4 @@
 -- `empty_sheet` lays no parts and no instruments out. Assumes nothing.
-use borrow.Author.Rules.{rules}
 use Rattle.parser.proofs.Sheeting.{sheet_empty}
 use Rattle.parser.proofs.ending.empty_sheet.Goals as goal
 

@@ -1,5 +1,4 @@
 -- `laid` makes each field of the sheet from the columns. Assumes nothing.
-use borrow.Author.Rules.{rules}
 use Rattle.parser.proofs.Sheeting.{sheet_laid}
 use Rattle.parser.proofs.ending.laid.Goals as goal
 

@@ -1,6 +1,5 @@
 -- `refused_reading` has the empty sheet and no steps. Assumes nothing.
 use mathlib.Core.Path.{ap}
-use borrow.Author.Rules.{rules}
 use Rattle.sheet.specs.declared.sheet.Sheet.{Sheet}
 use Rattle.meaning.specs.Layout.{laid_out}
 use Rattle.parser.proofs.ending.refused_reading.Goals as goal

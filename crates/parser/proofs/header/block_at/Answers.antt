@@ -1,6 +1,5 @@
 -- `block_at` lends the two regions of its instrument. Assumes nothing.
 use Rattle.parser.proofs.Blocks.{blocked, blocked_beside}
-use borrow.Author.Rules.{rules}
 use Rattle.parser.proofs.header.block_at.Goals as goal
 
 pub returns : goal.returns

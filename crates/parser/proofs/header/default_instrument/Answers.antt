@@ -2,7 +2,6 @@
 use mathlib.Core.Path.{◌∙◌}
 use Rattle.text.specs.Quoted.{bytes}
 use Rattle.parser.proofs.Beginning.{default_columns}
-use borrow.Author.Rules.{rules}
 use Rattle.parser.proofs.header.default_instrument.Goals as goal
 
 pub returns-clause-lines : goal.returns-clause-lines

@@ -1,21 +1,19 @@
 -- `kept` reads the lines, and stores their number and the release where they are accepted. Assumes nothing.
-use native.Mathlib.Omega.{arith}
 use Rattle.parser.proofs.Blocks.{kept_refused, kept_stored}
-use borrow.Author.Rules.{rules}
 use Rattle.parser.proofs.header.kept.Goals as goal
 
 pub block_at-b-requires : goal.block_at-b-requires
 block_at-b-requires c = c.requires
 
-pub shape_of-numbers-then-b-ne0 : goal.shape_of-numbers-then-b-ne0
-shape_of-numbers-then-b-ne0 c = c.block_at-b.auto.numbers
+pub shape_of-numbers-in-Some : goal.shape_of-numbers-in-Some
+shape_of-numbers-in-Some c = c.block_at-b.auto.numbers
 
-pub shape_of-shape-then-b-ne0 : goal.shape_of-shape-then-b-ne0
-shape_of-shape-then-b-ne0 c = c.block_at-b.auto.shape
+pub shape_of-shape-in-Some : goal.shape_of-shape-in-Some
+shape_of-shape-in-Some c = c.block_at-b.auto.shape
 
-pub returns-then-b-ne0 : goal.returns-then-b-ne0
-returns-then-b-ne0 c =
-    kept_refused _ _ _ _ _ _ _ _ _ c.block_at-b.ensures.block c.block_at-b.ensures.aside c.if-b-ne0.true
+pub returns-in-Some : goal.returns-in-Some
+returns-in-Some c =
+    kept_refused _ _ _ _ _ _ _ _ _ c.block_at-b.ensures.block c.block_at-b.ensures.aside _ c.in-Some.is
 
 pub returns : goal.returns
 returns c =

@@ -6,7 +6,6 @@ use lib.Ieee.{Float}
 use Rattle.tree.specs.Lines.{release_of}
 use Rattle.commands.specs.Commands.{lines_held}
 use Rattle.layout.proofs.Regions.{lent_region}
-use borrow.Author.Rules.{rules}
 use Rattle.parser.proofs.header.release_at.Goals as goal
 
 pub returns : goal.returns

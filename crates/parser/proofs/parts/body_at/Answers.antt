@@ -5,7 +5,6 @@ use lib.ListN.{length}
 use Rattle.part.specs.Columns.{book_in}
 use Rattle.parser.proofs.Pieces.{back_long}
 use Rattle.parser.proofs.Playing.{body_came, body_places}
-use borrow.Author.Rules.{rules}
 use Rattle.parser.proofs.parts.body_at.Goals as goal
 
 pub overflow_mul-a : goal.overflow_mul-a

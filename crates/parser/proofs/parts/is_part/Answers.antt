@@ -1,22 +1,23 @@
 -- `is_part` looks for the bytes that other kinds of line begin with. Assumes nothing.
-use Rattle.parser.proofs.LineKinds.{kind_empty, kind_comment, kind_header, kind_directive, kind_macro, kind_part, not_skipped, not_header, not_directive, not_macro, is_part}
-use borrow.Author.Rules.{rules}
+use Rattle.std.proofs.Common.{◌≡◌, ◌⊎◌, ⊎_elim, ℕ, List, length, get_or, false, sym, ◌∙◌, arith}
+use borrow.Author.Tests.{eqb-true, eqb-false}
+use Rattle.parser.proofs.LineKinds.{Parts, kind_empty, kind_comment, kind_header, kind_directive, kind_macro, kind_part, not_skipped, not_header, not_directive, not_macro, is_part}
 use Rattle.parser.proofs.parts.is_part.Goals as goal
 
-pub returns-then-l-eq0 : goal.returns-then-l-eq0
-returns-then-l-eq0 c = not_skipped _ (kind_empty _ c.if-l-eq0.true)
+other_kind : (l : List ℕ) → (length l ≡ 0 → ⊥)
+    → (get_or l 0 0 ≡ 33) ⊎ ((get_or l 0 0 ≡ 35) ⊎ ((get_or l 0 0 ≡ 59) ⊎ (get_or l 0 0 ≡ 64)))
+    → Parts l false
+other_kind l n =
+    ⊎_elim (λ e. not_macro l (kind_macro l n e))
+    (⊎_elim (λ e. not_directive l (kind_directive l n e)) (⊎_elim (λ e. not_skipped l (kind_comment l n e)) (λ e. not_header l (kind_header l n e))))
 
-pub returns-then-b-eq59 : goal.returns-then-b-eq59
-returns-then-b-eq59 c = not_skipped _ (kind_comment _ c.if-l-eq0.false c.if-b-eq59.true)
+pub returns-then-is_empty : goal.returns-then-is_empty
+returns-then-is_empty c = not_skipped _ (kind_empty _ (eqb-true _ _ (sym c.is_empty.ensures ∙ c.if-is_empty.true)))
 
-pub returns-then-b-eq64 : goal.returns-then-b-eq64
-returns-then-b-eq64 c = not_header _ (kind_header _ c.if-l-eq0.false c.if-b-eq64.true)
+pub returns-in-59 : goal.returns-in-59
+returns-in-59 c = other_kind _ (eqb-false _ _ (sym c.is_empty.ensures ∙ c.if-is_empty.false)) c.in-59.is
 
-pub returns-then-b-eq35 : goal.returns-then-b-eq35
-returns-then-b-eq35 c = not_directive _ (kind_directive _ c.if-l-eq0.false c.if-b-eq35.true)
-
-pub returns-then-b-eq33 : goal.returns-then-b-eq33
-returns-then-b-eq33 c = not_macro _ (kind_macro _ c.if-l-eq0.false c.if-b-eq33.true)
-
-pub returns : goal.returns
-returns c = is_part _ (kind_part _ c.if-l-eq0.false c.if-b-eq59.false c.if-b-eq64.false c.if-b-eq35.false c.if-b-eq33.false)
+pub returns-in_default : goal.returns-in_default
+returns-in_default c =
+    is_part _
+    (kind_part _ (eqb-false _ _ (sym c.is_empty.ensures ∙ c.if-is_empty.false)) (λ e. grind (arith, e)) (λ e. grind (arith, e)) (λ e. grind (arith, e)) (λ e. grind (arith, e)))

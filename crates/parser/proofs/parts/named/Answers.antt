@@ -2,7 +2,6 @@
 use native.Mathlib.Omega.{arith}
 use lib.ListN.{length-set}
 use Rattle.parser.proofs.Storing.{named_known, named_new}
-use borrow.Author.Rules.{rules}
 use Rattle.parser.proofs.parts.named.Goals as goal
 
 pub returns-then-k-parts : goal.returns-then-k-parts

@@ -3,18 +3,17 @@ use native.Mathlib.Omega.{arith}
 use borrow.Author.Tests.{not-true, not-false}
 use Rattle.tables.proofs.MacroLines.{name_places, name_ends}
 use Rattle.parser.proofs.Parting.{parted_other, parted_bare, parted_named}
-use borrow.Author.Rules.{rules}
 use Rattle.parser.proofs.parts.part_of.Goals as goal
 
 pub returns-then-not-is_part : goal.returns-then-not-is_part
 returns-then-not-is_part c =
     let a = c.args in
-    parted_other a.source.now a.at a.end a.parts a.loops.now c.unnamed.result c.unnamed.ensures (c.is_part.ensures.1 c.if-not-is_part.true)
+    parted_other a.source.now a.at a.end a.parts a.loops.now (c.is_part.ensures.1 c.if-not-is_part.true)
 
-pub returns-then-not-two : goal.returns-then-not-two
-returns-then-not-two c =
+pub returns-then-not-name : goal.returns-then-not-name
+returns-then-not-name c =
     let a = c.args in
-    parted_bare a.source.now a.at a.end a.parts a.loops.now c.name_at-name.result c.name_at-name.ensures c.unnamed-then-not-two.result c.unnamed-then-not-two.ensures c.if-not-two.true
+    parted_bare a.source.now a.at a.end a.parts a.loops.now c.name_at-name.result c.name_at-name.ensures (not-true _ c.if-not-name.true)
 
 pub slice_bounds-place_of-count : goal.slice_bounds-place_of-count
 slice_bounds-place_of-count c =
@@ -49,4 +48,4 @@ pub returns : goal.returns
 returns c =
     let n = c.name_at-name in
     let a = c.args in
-    parted_named a.source.now a.at a.end a.parts a.loops.now n.result n.ensures (c.is_part.ensures.0 c.if-not-is_part.false) c.if-not-two.false c.place_of.result c.place_of.ensures
+    parted_named a.source.now a.at a.end a.parts a.loops.now n.result n.ensures (c.is_part.ensures.0 c.if-not-is_part.false) (not-false _ c.if-not-name.false) c.place_of.result c.place_of.ensures

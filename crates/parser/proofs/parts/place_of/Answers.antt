@@ -1,6 +1,5 @@
 -- `place_of` asks `place_named` of the first names. Assumes nothing.
 use Rattle.parser.proofs.PartReads.{first_places}
-use borrow.Author.Rules.{rules}
 use Rattle.parser.proofs.parts.place_of.Goals as goal
 
 pub returns : goal.returns

@@ -5,7 +5,6 @@ use native.Mathlib.Omega.{arith}
 use lib.Seq.{length-take-le}
 use lib.ListN.{length}
 use Rattle.parser.proofs.PartReads.{few_as, body_as}
-use borrow.Author.Rules.{rules}
 use Rattle.parser.proofs.parts.played.Goals as goal
 
 pub overflow_mul-m : goal.overflow_mul-m

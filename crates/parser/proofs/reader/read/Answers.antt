@@ -1,19 +1,18 @@
 -- `read` asks 1 and 2, and then lends its arrays to the walk and to the end. Assumes nothing.
+use Prim.Native.Nat.{ℕ}
 use mathlib.Core.Path.{refl, sym, ap, ◌∙◌}
-use borrow.Author.Tests.{not-true, not-false}
-use Rattle.sheet.specs.Refusals.{Outcome, ◌>>=◌}
+use Rattle.sheet.specs.Refusals.{Outcome, refused, ◌>>=◌}
 use Rattle.meaning.specs.Layout.{laid_out}
 use Rattle.meaning.specs.Sheets.{Read, ended}
 use Rattle.parser.specs.Columns.{place_column}
 use Rattle.parser.proofs.Bytes.{source_long, source_high, source_read}
-use borrow.Author.Rules.{rules}
 use Rattle.parser.proofs.reader.read.Goals as goal
 
 pub returns-then-source-gt32768 : goal.returns-then-source-gt32768
-returns-then-source-gt32768 c = c.refused_reading.ensures ∙ source_long _ 44100 _ c.if-source-gt32768.true
+returns-then-source-gt32768 c = c.refused_reading.ensures ∙ ap (λ (number : ℕ). laid_out (refused number 0)) c.number.ensures ∙ source_long _ 44100 _ c.if-source-gt32768.true
 
 pub returns-then-not-all_below_128 : goal.returns-then-not-all_below_128
-returns-then-not-all_below_128 c = c.refused_reading-then-not-all_below_128.ensures ∙ source_high _ 44100 _ c.if-source-gt32768.false (sym c.all_below_128.ensures ∙ c.if-not-all_below_128.true)
+returns-then-not-all_below_128 c = c.refused_reading-then-not-all_below_128.ensures ∙ ap (λ (number : ℕ). laid_out (refused number 0)) c.number-then-not-all_below_128.ensures ∙ source_high _ 44100 _ c.if-source-gt32768.false (sym c.all_below_128.ensures ∙ c.if-not-all_below_128.true)
 
 pub slice_bounds-walk-end : goal.slice_bounds-walk-end
 slice_bounds-walk-end c = refl

@@ -1,22 +1,9 @@
 -- `part_lines` reads one part's line after the other; what is left gives the same end throughout. Assumes nothing.
-use mathlib.Core.Path.{◌≡◌, refl, sym, ◌∙◌}
-use Prim.Native.Nat.{ℕ, ◌+◌, ◌-◌, ◌≤◌, ◌<◌}
-use native.Mathlib.Nat.{le_refl}
-use native.Mathlib.Omega.{arith}
-use lib.Dec.{lit<}
+use Prim.Native.Nat.{◌-◌, ◌≤◌}
 use lib.ListN.{length}
-use borrow.Author.Tests.{not-true, not-false}
-use borrow.Author.Rules.{rules, scaled_Fits}
-use mir.Syntax.{w64}
-use mir.Val.{Fits}
-use Rattle.tables.proofs.MacroLines.{name_ends}
 use Rattle.strict.specs.declared.mode.Mode.{Mode}
-use Rattle.strict.specs.declared.mode.Mode.TheVariants.{Plain}
 use Rattle.parser.specs.Columns.{place_column, tables_in}
 use Rattle.parser.specs.Walks.{rest_read, Walking}
-use Rattle.parser.proofs.Going.{lined, line_small}
-use Rattle.parser.proofs.PartWalk.{full_walked, part_there, state_fits, refused_walked, stored_walked}
-use Rattle.parser.proofs.Walking.{walking_begins, walking_more, run_ends, run_stops, run_refuses}
 use Rattle.parser.proofs.runs.part_lines.Given as goal
 
 abbrev pub invariant-loop-r : goal.invariant-loop-r

@@ -6,4 +6,4 @@ use Rattle.parser.specs.Columns.{with_envs}
 use Rattle.parser.proofs.steps.changed.Goals as goal
 
 pub returns : goal.returns
-returns c = ap₂ (λ (e : Environment) (es : List Environment). with_envs c.args.r e es) c.apply-start.ensures c.apply_to_parts-each.ensures
+returns c = ap₂ (λ (e : Environment) (es : List Environment). with_envs c.args.r e es) c.apply.ensures c.apply_to_parts.ensures

@@ -1,6 +1,5 @@
 -- `nothing_sofar` fills its arrays with the starting environment and with 0. Assumes nothing.
 use Rattle.parser.specs.Columns.{nothing_sofar}
-use borrow.Author.Rules.{rules}
 use Rattle.parser.proofs.walk.nothing_sofar.Goals as goal
 
 pub returns : goal.returns

@@ -1,14 +1,10 @@
 -- `walk` reads a run of parts' lines and then a line that names no part; what is left gives the same end throughout. Assumes nothing.
-use mathlib.Core.Path.{sym, ◌∙◌}
-use Prim.Native.Nat.{ℕ, ◌-◌, ◌≤◌, ◌<◌}
-use native.Mathlib.Omega.{arith}
+use Prim.Native.Nat.{◌-◌}
 use lib.ListN.{length}
 use Rattle.lines.specs.Lines.{lines_of}
 use Rattle.meaning.specs.Sheets.{nothing_read, lines_read}
 use Rattle.parser.specs.Columns.{place_column, tables_in}
 use Rattle.parser.specs.Walks.{Walking}
-use Rattle.parser.proofs.Beginning.{walking_begun}
-use Rattle.parser.proofs.Walking.{walking_begins, walking_end, walking_refused, walking_more, walking_own, run_on, run_ended, bare_as}
 use Rattle.parser.proofs.walk.walk.Given as goal
 
 abbrev pub invariant-loop-r : goal.invariant-loop-r
