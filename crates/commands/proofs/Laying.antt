@@ -1,6 +1,5 @@
 -- Commands laid down from the last line up: each line puts its own behind those of the lines below it, and 32 lines have room. Assumes nothing.
 use mathlib.Core.Path.{◌≡◌, refl, sym, ap, ap₂, ◌∙◌}
-use mathlib.Core.Bool.{true, false}
 use mathlib.Core.List.{List, [], ◌∷◌, ◌++◌, map, map-append, reverse, reverse-cons}
 use mathlib.Core.Option.{none, some}
 use Prim.Native.Nat.{ℕ, zero, suc, ◌+◌, ◌-◌, ◌*◌, ◌/◌, ◌≤◌, ◌<◌, min}
@@ -10,7 +9,7 @@ use native.Mathlib.Omega.{arith}
 use borrow.Author.Tests.{lt-ltb, le-ltb}
 use lib.ListN.{length, drop, set, get_or, length-append, length-map, length-reverse}
 use lib.Seq.{get_or-drop, drop-drop}
-use lib.Ieee.{Float, nan, binary32, of_bits, lt}
+use lib.Ieee.{Float, nan, binary32, of_bits}
 use Rattle.instrument.specs.declared.machine.Command.{Command}
 use Rattle.instrument.specs.declared.machine.Slot.{Slot}
 use Rattle.instrument.specs.declared.machine.Instrument.{Instrument}
@@ -139,14 +138,6 @@ module _ (most : ℕ) (fs : List Float) (ss : List ℕ) where
       g.lies ∙ ap₂ (λ (k j : ℕ). laid (put_from k j fs ss)) z e
 
 -- ---- releases
-
-pub larger_new : (most r : Float) → lt most r ≡ true → r ≡ larger most r
-unfolding larger
-larger_new most r e = rw (e, larger)
-
-pub larger_old : (most r : Float) → lt most r ≡ false → most ≡ larger most r
-unfolding larger
-larger_old most r e = rw (e, larger)
 
 pub release_start : (n : ℕ) (fs : List Float) (ss : List ℕ) → release_from (of_bits binary32 0) (lines_from (n - 0) 0 fs ss) ≡ release_of (lines_from n 0 fs ss)
 unfolding release_of of_bits

@@ -1,4 +1,5 @@
-// An instrument from its operator lines in two columns: the lines are read from the last one up, and a line that is outdented puts its `Stack` after itself.
+// An instrument from its operator lines in two columns: the lines are read from the last one up, and
+// a line that is outdented puts its `Stack` after itself.
 
 ghost use Rattle.std.specs.Prelude.{◌≡◌, List, [], ℕ, ◌+◌, ◌*◌, ◌/◌, ◌≤◌, ◌<◌, min, length, get_or};
 ghost use Rattle.instrument.specs.declared.machine.Command.TheVariants as Command;
@@ -96,6 +97,7 @@ fn lay(all: &mut Laid, numbers: &[f32], shape: &[usize], i: usize)
 }
 
 // The larger of a release and those before it.
+#[tactic(auto, unfolding(tree::specs::Lines::larger))]
 fn larger(most: f32, release: f32) -> f32
     ensures { result ≡ larger most release }
 {
