@@ -13,10 +13,11 @@ use text::blanks::ink_end;
 use text::characters::stands_at;
 use text::parsed::{Parsed, next_or};
 
-// The most that a value, an octave or a tempo may be as a digit run, and the most that a loop's count may be.
-const VALUE_MOST: u64 = 4294967295;
+// The most that a value, an octave or a tempo may be as a digit run.
+const VALUE_MOST: u64 = u32::MAX as u64;
 
-const COUNT_MOST: u64 = 18446744073709551615;
+// The most that a loop's count may be.
+const COUNT_MOST: u64 = u64::MAX;
 
 // A note as it is written: its letter, its accidental, its value and whether it is dotted.
 #[derive(Clone, Copy)]

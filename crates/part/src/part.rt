@@ -11,9 +11,10 @@ use crate::state::{Book, Columns, NOTES, OPEN_LOOPS, State};
 use environment::environment::Environment;
 use sheet::refusal::Refusal;
 
-// How many instruments a sheet may have, and how deep macro calls may nest.
+// How many instruments a sheet may have.
 const INSTRUMENTS: usize = 32;
 
+// How deep macro calls may nest.
 const NESTED_CALLS: usize = 8;
 
 // Whether a state is that of a part within the capacities, and columns of these lengths have the room for all of it.

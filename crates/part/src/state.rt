@@ -7,11 +7,13 @@ ghost use Rattle.part.specs.Columns.{refused_at};
 use environment::environment::Environment;
 use sheet::refusal::Refusal;
 
-// How many notes all parts may have, how many loops of a part may be open, and how many steps a reading may take.
+// How many notes all parts may have.
 pub(crate) const NOTES: usize = 2048;
 
+// How many loops of a part may be open.
 pub(crate) const OPEN_LOOPS: usize = 8;
 
+// How many steps a reading may take.
 pub(crate) const STEPS: usize = 100000;
 
 #[derive(Clone, Copy)]

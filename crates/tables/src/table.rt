@@ -9,9 +9,10 @@ ghost use Rattle.tables.specs.Tables.{with_entry, names_after, bodies_after, hea
 use lines::names::{NameAt, name_at, place_named};
 use sheet::refusal::Refusal;
 
-// How many macros a sheet may have, and how many instruments with the default one.
+// How many macros a sheet may have.
 const MACROS: usize = 64;
 
+// How many instruments a sheet may have with the default one.
 const INSTRUMENTS: usize = 32;
 
 // Whether one of a table's first `count` names is this one.
