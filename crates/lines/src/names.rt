@@ -1,21 +1,11 @@
 // Names as places in a text. A table has two places for each name: where it begins, and where it ends.
 
-ghost use Rattle.std.specs.Prelude.{◌≡◌, ◌*◌, ◌≤◌, min, length};
+ghost use Rattle.std.specs.Prelude.{◌≡◌, ◌*◌, ◌≤◌, length};
 ghost use Rattle.lines.specs.Names.{names_in, place_among};
 ghost use Rattle.lines.specs.Tokens.{name_at};
 
 use text::blanks::{blanks_end, ink_end};
 use text::characters::same_text;
-
-// The smaller of two numbers.
-pub fn least(a: usize, b: usize) -> usize
-    ensures { result ≡ min a b }
-{
-    if a < b {
-        return a;
-    }
-    b
-}
 
 // How many names of a table stand before the first that is this one; where none is, how many there are. A place past
 // the text's end is its end, and a name that would end before it begins is empty.

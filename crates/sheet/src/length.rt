@@ -1,6 +1,6 @@
-// Seconds counted in samples where every time has a count, and the larger of two ends.
+// Seconds counted in samples where every time has a count.
 
-ghost use Rattle.std.specs.Prelude.{◌≡◌, ◌≤◌, max};
+ghost use Rattle.std.specs.Prelude.{◌≡◌, ◌≤◌};
 ghost use Rattle.tone.specs.Time.{length_of};
 ghost use Rattle.sheet.specs.Lengths.{samples_of};
 
@@ -11,14 +11,4 @@ pub fn samples(seconds: f32, rate: u32) -> u64
     ensures { (result ≡ samples_of (length_of rate seconds)) × (result ≤ 16777216) }
 {
     sec_to_len(seconds, rate).unwrap_or(0)
-}
-
-// The larger of two ends.
-pub fn larger(a: u64, b: u64) -> u64
-    ensures { result ≡ max a b }
-{
-    if a < b {
-        return b;
-    }
-    a
 }
