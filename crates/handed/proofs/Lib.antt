@@ -4,7 +4,6 @@ pub mod Scans
 pub mod Cuts
 pub mod Instruments
 pub mod Totals
-pub mod Turns
 pub mod Played
 pub mod Releases
 pub mod Notes

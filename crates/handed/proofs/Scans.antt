@@ -1,12 +1,11 @@
--- Looking at the first m elements one by one: those still to be looked at decide, so one that fails ends the scan, and at the end all have passed.
--- Assumes nothing.
+-- Looking at the first m elements one by one: those still to be looked at decide, so one that fails ends the scan. Assumes nothing.
 use mathlib.Core.Path.{◌≡◌, sym, ap, ◌∙◌}
 use mathlib.Core.Bool.{Bool, true, false, ◌&&◌}
 use mathlib.Core.List.{List}
 use Prim.Native.Nat.{ℕ, ◌+◌, ◌≤◌, ◌<◌}
 use native.Mathlib.Numerals.{add-one}
 use lib.ListN.{length, get_or}
-use lib.Seq.{slice, slice-cons, slice_empty}
+use lib.Seq.{slice, slice-cons}
 use Rattle.handed.specs.Check.{all}
 
 module _ {A : Type 0} (test : A → Bool) (xs : List A) (m : ℕ) where
@@ -20,7 +19,3 @@ module _ {A : Type 0} (test : A → Bool) (xs : List A) (m : ℕ) where
 
     pub scan_more : b ≡ true → all test (slice (k + 1) m xs) ≡ whole
     scan_more f = sym (next ∙ rw f) ∙ g
-
-  pub scan_end : (k : ℕ) (whole : Bool) → k ≡ m → all test (slice k m xs) ≡ whole → true ≡ whole
-  unfolding all
-  scan_end k whole e g = sym (ap (all test) (slice_empty m xs)) ∙ ap (λ (j : ℕ). all test (slice j m xs)) (sym e) ∙ g

@@ -2,8 +2,5 @@
 -- left. Assumes nothing.
 use Rattle.ask_numbers.proofs.main.Given as goal
 
-abbrev pub invariant-loop-turns : goal.invariant-loop-turns
-invariant-loop-turns l = Unit {0}
-
 abbrev pub decreases-loop-turns : goal.decreases-loop-turns
 decreases-loop-turns l = l.turns
