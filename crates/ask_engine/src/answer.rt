@@ -9,9 +9,8 @@ use evaluator::window::window;
 use fields::float::to_bits;
 use fields::word::put;
 use form::size::size_of;
-use lines::names::least;
 use parser::reader::read;
-use sheet::answer::Answer;
+use sheet::refusal::Refusal;
 use sheet::sheet::Sheet;
 use strict::mode::Mode;
 use windows::window::write_window;
@@ -19,37 +18,33 @@ use windows::window::write_window;
 // Standard output.
 const STDOUT_FILENO: i32 = 1;
 
+// How many samples a second has.
+const RATE: u32 = 44100;
+
 // An answer as two numbers: the refusal, 0 for none, and the count.
-fn numbers(answer: Answer) -> [u8; 8] {
+fn numbers(answer: Result<usize, Refusal>) -> [u8; 8] {
     let mut out = [0u8; 8];
     match answer {
-        Answer::Count(n) => {
-            put(&mut out, 4, least(n, 0xffff_ffff) as u32);
-            out
-        }
-        Answer::Refused(n) => {
-            put(&mut out, 0, n);
-            out
-        }
+        Ok(n) => put(&mut out, 4, n.min(0xffff_ffff) as u32),
+        Err(why) => put(&mut out, 0, why.number()),
     }
+    out
 }
 
 // Puts the bits of floats, four bytes each, of those that there is room for, and says how many bytes they take.
 fn bits(floats: &[f32], out: &mut [u8]) -> usize
     ensures { IsPrefixLen result out.new }
 {
-    let n = least(floats.len(), out.len() / 4);
-    let mut i = 0;
-    while i < n {
-        put(out, 4 * i, to_bits(floats[i]));
-        i += 1;
+    let n = floats.len().min(out.len() / 4);
+    for (i, x) in floats[..n].iter().enumerate() {
+        put(out, 4 * i, to_bits(*x));
     }
     4 * n
 }
 
 // Writes a window of samples into a slice, answers with all of it, and says whether the answer was taken.
 fn samples_in(sheet: Sheet, start: u32, floats: &mut [f32]) -> bool {
-    let head = numbers(window(sheet, floats, 44100, start as usize));
+    let head = numbers(window(sheet, floats, RATE, start as usize));
     let mut out = io::large_buffer();
     let n = bits(floats, &mut out);
     io::write_all(STDOUT_FILENO, &head) && io::write_all(STDOUT_FILENO, &out[..n])
@@ -63,17 +58,11 @@ fn samples(sheet: Sheet, asked: Request) -> bool {
 }
 
 // The header, or a window of samples as bytes.
-fn written(sheet: Sheet, asked: Request, buffer: &mut [u8]) -> Answer {
+fn written(sheet: Sheet, asked: Request, buffer: &mut [u8]) -> Result<usize, Refusal> {
     if asked.kind == 1 {
-        return write_header(sheet, buffer, size_of(asked.start), 44100);
+        return write_header(sheet, buffer, size_of(asked.start), RATE);
     }
-    write_window(
-        sheet,
-        buffer,
-        asked.at as usize,
-        44100,
-        asked.start as usize,
-    )
+    write_window(sheet, buffer, asked.at as usize, RATE, asked.start as usize)
 }
 
 // Writes bytes into a buffer, answers with all of it, and says whether the answer was taken.

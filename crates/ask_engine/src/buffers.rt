@@ -3,8 +3,6 @@
 ghost use Rattle.std.specs.Prelude.{◌≡◌, ◌≤◌, length, take};
 ghost use Rattle.io.specs.Counts.{IsPrefixLen};
 
-use lines::names::least;
-
 // What a slice of samples holds before it is lent.
 pub fn floats() -> [f32; 16384]
     ensures { 16384 ≡ length result }
@@ -23,12 +21,12 @@ pub fn bytes() -> [u8; 65536]
 pub fn floats_asked(room: u32, floats: &[f32]) -> usize
     ensures { (result ≤ length floats.now) × (result ≡ length (take result floats.now)) }
 {
-    least(room as usize, floats.len())
+    (room as usize).min(floats.len())
 }
 
 // How many bytes of a buffer are asked for: all of them at the most.
 pub fn bytes_asked(room: u32, buffer: &[u8]) -> usize
     ensures { IsPrefixLen result buffer.now }
 {
-    least(room as usize, buffer.len())
+    (room as usize).min(buffer.len())
 }

@@ -3,7 +3,6 @@
 ghost use Rattle.std.specs.Prelude.{◌≤◌, length};
 
 use fields::word::word;
-use lines::names::least;
 
 #[derive(Clone, Copy)]
 pub struct Request {
@@ -40,5 +39,5 @@ pub fn of(head: &[u8]) -> Request
 pub fn follow(asked: Request) -> usize
     ensures { result ≤ 40000 }
 {
-    least(asked.text as usize, 40000)
+    (asked.text as usize).min(40000)
 }

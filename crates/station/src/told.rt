@@ -6,12 +6,16 @@ ghost use Rattle.sheet.specs.Refusals.{going, refused};
 ghost use Rattle.station.specs.Calls.{told, samples_asked, header_asked, header_written, window_asked, window_written, wav_told, wav_written};
 
 use engine::file::write_header;
+use form::header::HEADER_BYTES;
 use form::size::Size;
 use handed::check::check;
 use parser::reader::read;
-use sheet::answer::Answer;
+use sheet::refusal::Refusal;
 use strict::mode::Mode;
 use windows::window::write_window;
+
+// How many samples a second has.
+const RATE: u32 = 44100;
 
 // What a caller is told: how many, a refusal's number, 0 for none, and its line.
 #[derive(Clone, Copy)]
@@ -44,12 +48,12 @@ fn turned_away(refusal: u32, line: usize) -> Told
 }
 
 // What is answered to a caller who hands in a sheet, told to one who hands in a text.
-fn told_of(answer: Answer) -> Told
+fn told_of(answer: Result<usize, Refusal>) -> Told
     ensures { result ≡ told (answered answer) }
 {
     match answer {
-        Answer::Count(n) => so_many(n),
-        Answer::Refused(k) => turned_away(k, 0),
+        Ok(n) => so_many(n),
+        Err(why) => turned_away(why.number(), 0),
     }
 }
 
@@ -61,7 +65,7 @@ pub(crate) fn samples_of(source: &[u8], mode: Mode) -> Told
     if reading.refusal != 0 {
         return turned_away(reading.refusal, reading.line);
     }
-    so_many(check(reading.sheet, 44100).length)
+    told_of(check(reading.sheet, RATE))
 }
 
 // The header of a text's file, with the RIFF size of that name, in the buffer's first 44 bytes.
@@ -73,7 +77,7 @@ pub(crate) fn header_of(source: &[u8], mode: Mode, riff: Size, buffer: &mut [u8]
     if reading.refusal != 0 {
         return turned_away(reading.refusal, reading.line);
     }
-    told_of(write_header(reading.sheet, buffer, riff, 44100))
+    told_of(write_header(reading.sheet, buffer, riff, RATE))
 }
 
 // The samples of a text from `start` on that exist and fit whole, as bytes from `place` on.
@@ -91,7 +95,7 @@ pub(crate) fn window_of(
     if reading.refusal != 0 {
         return turned_away(reading.refusal, reading.line);
     }
-    told_of(write_window(reading.sheet, buffer, place, 44100, start))
+    told_of(write_window(reading.sheet, buffer, place, RATE, start))
 }
 
 // The whole file of a text, in the buffer's first bytes; the count is the file's size, also where the buffer has fewer.
@@ -103,15 +107,15 @@ pub(crate) fn wav_of(source: &[u8], mode: Mode, riff: Size, buffer: &mut [u8]) -
     if text.refusal != 0 {
         return turned_away(text.refusal, text.line);
     }
-    let size = 44 + 2 * check(text.sheet, 44100).length;
+    let size = HEADER_BYTES + 2 * check(text.sheet, RATE).unwrap_or(0);
     if buffer.len() < size {
         return Told {
             count: size,
-            refusal: 30,
+            refusal: Refusal::BufferTooShort.number(),
             line: 0,
         };
     }
-    write_header(text.sheet, buffer, riff, 44100);
-    write_window(text.sheet, buffer, 44, 44100, 0);
+    let _ = write_header(text.sheet, buffer, riff, RATE);
+    let _ = write_window(text.sheet, buffer, HEADER_BYTES, RATE, 0);
     so_many(size)
 }

@@ -1,9 +1,6 @@
--- `main` is safe and ends. Nothing has to hold from turn to turn; the measure is how many turns are left. Assumes nothing.
+-- `main` is safe and ends. The measure is how many turns are left. Assumes nothing.
 use native.Mathlib.Omega.{arith}
 use Rattle.ask_engine.proofs.main.Given as goal
-
-abbrev pub invariant-loop-turns : goal.invariant-loop-turns
-invariant-loop-turns l = Unit {0}
 
 abbrev pub decreases-loop-turns : goal.decreases-loop-turns
 decreases-loop-turns l = l.turns

@@ -3,7 +3,8 @@ use mathlib.Core.Path.{sym, ap, ◌∙◌}
 use Prim.Native.Nat.{ℕ}
 use borrow.Author.Rules.{rules}
 use Rattle.sheet.specs.Refusals.{going}
-use Rattle.handed.proofs.Answers.{checked_length}
+use Rattle.sheet.specs.Answers.{answered}
+use Rattle.handed.proofs.Answers.{check_counts}
 use Rattle.station.specs.Calls.{told}
 use Rattle.station.proofs.Texts.{text_refused, text_going, sheet_passes}
 use Rattle.station.proofs.Asked.{samples_refused, samples_going}
@@ -22,6 +23,6 @@ returns c =
     let q = c.read-reading in
     let k = c.check in
     let e = text_going a.mode a.source.now q.result q.ensures c.if-reading-ne0.false in
-    c.so_many.ensures
-    ∙ ap (λ (n : ℕ). told (going n)) (checked_length 44100 q.result.sheet k.result k.ensures (sheet_passes a.mode a.source.now _ e))
+    c.told_of.ensures
+    ∙ ap (λ a. told (answered a)) (k.ensures ∙ check_counts 44100 q.result.sheet (sheet_passes a.mode a.source.now _ e))
     ∙ sym (ap told (samples_going a.mode a.source.now _ e))
