@@ -5,7 +5,10 @@ use mathlib.Core.List.{List}
 use mathlib.Core.Option.{Option, none, some}
 use Prim.Native.Nat.{ℕ, ◌<◌}
 use native.Mathlib.Omega.{arith}
-use Rattle.lines.specs.Tokens.{named_of}
+use Rattle.text.specs.Characters.{same, row_named}
+use Rattle.text.specs.Quoted.{bytes}
+use Rattle.lines.specs.Tokens.{named_of, first_token}
+use Rattle.number.specs.Digits.{value_most, int_at}
 use Rattle.std.specs.Prelude.{Result, Ok, Err}
 use Rattle.sheet.specs.declared.refusal.Refusal.{Refusal}
 use Rattle.sheet.specs.declared.refusal.Refusal.TheVariants.{
@@ -43,14 +46,18 @@ use Rattle.sheet.specs.declared.refusal.Refusal.TheVariants.{
 }
 use Rattle.sheet.specs.Numbers.{number_of as refusal_number}
 use Rattle.sheet.specs.Refusals.{Outcome, going, refused, ◌>>=◌, ◌>>◌, refuse◌on◌unless◌, refuse◌on◌without◌}
-use Rattle.sheet.proofs.Outcomes.{Numbered, numbered_going, numbered_unless, numbered_then}
+use Rattle.sheet.proofs.Outcomes.{Numbered, numbered_going, numbered_refused, numbered_unless, numbered_if, numbered_then}
+use Rattle.strict.specs.declared.mode.Mode.{Mode}
 use Rattle.environment.specs.declared.environment.Environment.{Environment}
-use Rattle.environment.specs.Bounds.{Bounds}
+use Rattle.environment.specs.Bounds.{Bounds, tempos, denominators}
+use Rattle.environment.specs.Environment.{with_tempo, with_denominator, with_key}
 use Rattle.keys.specs.declared.key.Key.{Key}
-use Rattle.environment.specs.Ranges.{ranged, key_taken}
+use Rattle.keys.specs.Keys.{key_at, key_found}
+use Rattle.environment.specs.Ranges.{digit_run, ranged, key_taken}
 use Rattle.directive.specs.declared.directive.Directive.{Directive}
 use Rattle.directive.specs.declared.directive.Directive.TheVariants.{Tempo, Denominator, OfKey}
-use Rattle.directive.specs.Directives.{directive_outcome, applied}
+use Rattle.directive.specs.Directives.{directives, change_of, directive_of, directive_outcome, applied}
+use Rattle.directive.proofs.Rows.{by_name}
 use Rattle.tables.specs.Named.{Macro}
 use Rattle.tables.specs.Tables.{macro_of, header_of, number_of}
 
@@ -69,6 +76,32 @@ ranged_numbered line b n =
 pub key_taken_numbered : (line : ℕ) (k : Option Key) → Numbered (key_taken line k)
 unfolding key_taken
 key_taken_numbered line k = numbered_without 9 line k (omega arith)
+
+module _ (mode : Mode) (line : ℕ) (text : List ℕ) where
+  tempo_numbered : Numbered (change_of mode line (bytes "#tempo") text)
+  unfolding change_of directives row_named same bytes
+  tempo_numbered =
+      numbered_then _ _ (ranged_numbered line tempos (digit_run (int_at value_most text 0))) (λ v. numbered_if _ _ _ _ (omega arith) (numbered_going (with_tempo v)))
+
+  denominator_numbered : Numbered (change_of mode line (bytes "#denom") text)
+  unfolding change_of directives row_named same bytes
+  denominator_numbered =
+      numbered_then _ _ (ranged_numbered line denominators (digit_run (int_at value_most text 0))) (λ v. numbered_if _ _ _ _ (omega arith) (numbered_going (with_denominator v)))
+
+  key_numbered : Numbered (change_of mode line (bytes "#key") text)
+  unfolding change_of directives row_named same bytes
+  key_numbered =
+      numbered_then _ _ (key_taken_numbered line (key_found (key_at text 0)))
+      (λ k. numbered_if _ _ _ _ (omega arith) (numbered_going (with_key k)))
+
+  change_numbered : (name : List ℕ) → Numbered (change_of mode line name text)
+  change_numbered name =
+      by_name (λ x y. Numbered x) mode mode line text tempo_numbered denominator_numbered key_numbered (numbered_refused _ 6 line (omega arith)) name
+
+pub directive_numbered : (mode : Mode) (line : ℕ) (l : List ℕ) → Numbered (directive_of mode line l)
+unfolding directive_of
+directive_numbered mode line l =
+    numbered_then _ _ (numbered_without 7 line (named_of l) (omega arith)) (λ n. change_numbered mode line (first_token n.body) n.name)
 
 -- what is changed where there is no refusal, and the refusal
 pub directive_going : (d : Result Directive Refusal) (line : ℕ) (x : Directive) → d ≡ Ok x → directive_outcome line d ≡ going (applied d)
