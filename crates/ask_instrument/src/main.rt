@@ -27,8 +27,8 @@ fn answer_all(block: &[u8], start: Instrument) -> Instrument {
     held
 }
 
-// Reads up to a block and answers it, and gives the instrument afterwards where the input may have more. A record that the input's
-// end cuts short gets no answer.
+// Reads up to a block and answers it, and gives the instrument afterwards where the input may have more. A record
+// that the input's end cuts short gets no answer.
 fn answer_block(held: Instrument) -> Option<Instrument> {
     let mut block = io::large_buffer();
     let n = io::read_full(STDIN_FILENO, &mut block);
