@@ -1,8 +1,9 @@
 // Digit runs (the Rust's `eat_int`): the value of the digits at a place of a text, and the place
 // after them. One definition serves every limit: 4,294,967,295 for values, 2^64 - 1 for loop counts.
 
-ghost use Rattle.std.specs.Prelude.{◌≡◌, ◌+◌, ◌-◌, ◌^◌, ◌<◌, ◌≤◌, length, drop, MatchOption};
+ghost use Rattle.std.specs.Prelude.{◌≡◌, ◌+◌, ◌-◌, ◌^◌, ◌<◌, ◌≤◌, length, drop, MatchOption, Some, None};
 ghost use Rattle.text.specs.Fronts.{front};
+ghost use Rattle.text.specs.Parsed.{parsed};
 ghost use Rattle.number.specs.Digits.{is_digit, value_from, int_at};
 
 use text::parsed::Parsed;
@@ -44,17 +45,29 @@ pub(crate) fn value_after(v: u64, digits: &[u8]) -> Option<u64>
 }
 
 // The number at place i of s, if its value is at most `limit`: leading zeros are read, and where the
-// run is absent or over the limit no digit is.
+// run is absent or over the limit no digit is. It ends at the first digit that leads over the limit,
+// so that a long run costs no more than a short one.
 pub fn eat_int(s: &[u8], i: usize, limit: u64) -> Option<Parsed<u64>>
     ensures { result ≡ int_at limit s.now i }
 {
-    let digits = digits_at(s, i);
-    let value = value_after(0, digits)?;
-    if digits.is_empty() || value > limit {
-        return None;
+    let mut value: u64 = 0;
+    for at in i..s.len() {
+        if !is_digit(s[at]) {
+            return found(i, at, value);
+        }
+        let longer = value.checked_mul(10)?.checked_add(digit(s[at]))?;
+        if longer > limit {
+            return None;
+        }
+        value = longer;
     }
-    Some(Parsed {
-        value,
-        next: i + digits.len(),
-    })
+    found(i, s.len(), value)
+}
+
+// The answer for the digits from i up to `at`, whose value is `value`.
+fn found(i: usize, at: usize, value: u64) -> Option<Parsed<u64>>
+    ensures none { at ≤ i → result ≡ None }
+    ensures some { i < at → result ≡ Some (parsed value at) }
+{
+    (at > i).then_some(Parsed { value, next: at })
 }
