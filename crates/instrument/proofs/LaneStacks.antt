@@ -1,6 +1,9 @@
 -- The stacks of lanes: what an operator or a push does to each is what the machine does. The counts and the depth are shared.
 -- Assumes nothing.
-use Rattle.std.proofs.Common.{◌≡◌, ℕ, zero, suc, ◌+◌, ◌*◌, ◌<◌, ◌≤◌, List, ◌∷◌, length, get_or, set, sym, refl, ap, ◌∙◌, subst, ap₂, le_refl, mul-le-mul_right, add-one, arith, length-set, get_or-set_other, get_or-set_same}
+use Rattle.std.proofs.Common.{◌≡◌, ℕ, zero, suc, ◌+◌, ◌-◌, ◌*◌, ◌<◌, ◌≤◌, List, ◌∷◌, length, get_or, set, slice_range, sym, refl, ap, ◌∙◌, subst, ap₂, le_refl, mul-le-mul_right, add-one, arith, rules, length-set, get_or-set_other, get_or-set_same, w64, Fits}
+use borrow.Rule.Slice.PartMut.{put_mid}
+use Rattle.std.proofs.lemmas.List.{places}
+use Rattle.std.proofs.lemmas.List.Edits.{length-between}
 use lib.Ieee.{Float, nan, binary32, add}
 use Rattle.ieee.specs.Constants.{plus_zero}
 use Rattle.operator.specs.declared.operator.Operator.{Operator}
@@ -70,6 +73,32 @@ module _ (w depth : ℕ) (values : List Float) (counts : List ℕ) (saved : List
         counts_size = length-set counts top left;
         values_size = refl;
       }
+
+-- ---- rows of lanes
+
+-- a row of w lanes lies within 64 of them
+pub row_within : (k w n : ℕ) → k < 64 → n ≡ 64 * w → k * w + w ≤ n
+row_within k w n h e = omega (arith, mul-le-mul_right w h)
+
+pub row_fits : (k w : ℕ) → k < 64 → w ≤ 32 → Fits w64 (k * w)
+row_fits k w h l = omega (arith, mul-le-mul_right w h)
+
+-- a row that each lane's value was put into
+module _ (from w : ℕ) (values saved row : List Float) (h : from + w ≤ length saved) (r : Lanes (λ j x. get_or values j nan) w (slice_range saved from (from + w)) row) where
+  row_length : length row ≡ w
+  row_length = r.size ∙ length-between saved from (from + w) h ∙ omega arith
+
+  in_row : (j : ℕ) → j < w → get_or (put_mid from (from + w - from) saved row) (from + j) nan ≡ get_or row j nan
+  in_row j l = search (rules, places)
+
+  below_row : (k : ℕ) → k < from → get_or (put_mid from (from + w - from) saved row) k nan ≡ get_or saved k nan
+  below_row k l = search (rules, places)
+
+  with_row : length (put_mid from (from + w - from) saved row) ≡ length saved
+  with_row = search (rules, places)
+
+  pub keeps_row : Keeps from w values saved (put_mid from (from + w - from) saved row)
+  keeps_row = record { done = λ j l. in_row j l ∙ r.done j l; below = λ k l. below_row k l; size = with_row }
 
 -- ---- one command
 

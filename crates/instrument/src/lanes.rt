@@ -67,7 +67,8 @@ pub(crate) fn step(
         Command::Stack(m) => {
             counts[depth] = m;
             let from = depth * values.len();
-            saved[from..from + values.len()].copy_from_slice(values);
+            // Not by `copy_from_slice`, which would have the library for C ask for `memmove`.
+            each_lane(&mut saved[from..from + values.len()], |j, _| values[j]);
             values.fill(0.0);
             depth + 1
         }
