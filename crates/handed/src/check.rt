@@ -1,7 +1,7 @@
 // A sheet is a public struct that anyone can fill with anything: these functions find out whether what it counts can
 // be rendered.
 
-ghost use Rattle.std.specs.Prelude.{◌≡◌, true, false, ◌&&◌, ◌≤◌, min, ltb, take, Float};
+ghost use Rattle.std.specs.Prelude.{◌≡◌, true, false, ◌&&◌, ◌≤◌, min, ltb, length, take, Float};
 ghost use Rattle.std.specs.Float.{nan};
 ghost use Rattle.ieee.specs.Times.{is_time};
 ghost use Rattle.tone.specs.Time.{length_of as length_in};
@@ -48,8 +48,9 @@ fn instrument_passes(by: &Instrument) -> bool
 }
 
 // Whether the instruments that a sheet counts pass.
-fn instruments_pass(sheet: Sheet) -> bool
-    ensures { result ≡ all instrument_passes (instruments_of sheet) }
+fn instruments_pass(sheet: &Sheet) -> bool
+    requires { length sheet.now.table ≡ 32 }
+    ensures { result ≡ all instrument_passes (instruments_of sheet.now) }
 {
     let most = sheet.instruments.min(INSTRUMENTS_MOST);
     sheet.table[..most].iter().all(instrument_passes)
@@ -95,8 +96,8 @@ pub fn released(by: Instrument, known: bool) -> f32
 }
 
 // Goes through the notes of a sheet once: where all pass, the sheet's length in samples, the largest end of its notes.
-fn walk(sheet: Sheet, rate: u32) -> Result<usize, Refusal>
-    ensures { result ≡ walked_of rate sheet }
+fn walk(sheet: &Sheet, rate: u32) -> Result<usize, Refusal>
+    ensures { result ≡ walked_of rate sheet.now }
 {
     let instruments = sheet.instruments.min(INSTRUMENTS_MOST);
     let parts = sheet.parts.min(PARTS_MOST);
@@ -135,10 +136,10 @@ pub fn check(sheet: Sheet, rate: u32) -> Result<usize, Refusal>
     if count > NOTES_MOST {
         return Err(Refusal::NoSheet);
     }
-    if !instruments_pass(sheet) {
+    if !instruments_pass(&sheet) {
         return Err(Refusal::NoSheet);
     }
-    let length = walk(sheet, rate)?;
+    let length = walk(&sheet, rate)?;
     if length > SAMPLES_MOST {
         return Err(Refusal::NoSheet);
     }

@@ -9,6 +9,6 @@ use Rattle.handed.proofs.check.instruments_pass.Goals as goal
 pub returns : goal.returns
 unfolding all
 returns c =
-    let s = c.args.sheet in
+    let s = c.args.sheet.now in
     all_from_yields_List instrument_passes _ _ c.all.result c.all.ensures.ran (YieldsList-from_slice (take c.min-most.result s.table) (cc)) (λ x b q k. search (rules, tests))
-    ∙ ap (all instrument_passes) (take_cut s.table s.instruments 32 c.min-most.result c.well_formed.0.1.1.1.1.1.1.0.1.0.1 c.min-most.ensures)
+    ∙ ap (all instrument_passes) (take_cut s.table s.instruments 32 c.min-most.result c.requires c.min-most.ensures)

@@ -47,32 +47,32 @@ tells l o b e f = f ∙ ap (λ (q : Option ℕ). is_some q) e ∙ counted_is l
 pub loop-p-init : goal.loop-p-init
 unfolding length_of parts_of
 loop-p-init c =
-    let s = c.args.sheet in
-    let same = take_cut s.counts s.parts 16 c.min-parts.result c.well_formed.0.1.1.1.0.1.0.1 c.min-parts.ensures in
+    let s = c.args.sheet.now in
+    let same = take_cut s.counts s.parts 16 c.min-parts.result (omega arith) c.min-parts.ensures in
     let ends = ap (λ (cs : List ℕ). longest_of c.args.rate (releases_of (instruments_of s)) (cut cs s.notes)) same in
     let tests = ap (λ (cs : List ℕ). all (note_passes c.args.rate (instruments_of s)) (take (total cs) s.notes)) same in
     (omega arith, from_none _ _ ends, tests)
 
 pub loop-k-init : goal.loop-k-init
 loop-k-init c =
-    let s = c.args.sheet in
+    let s = c.args.sheet.now in
     let o = c.loop-p in
     let parts = c.min-parts in
     let h = c.loop-p-test.true in
-    let k : parts.result ≤ length s.counts = omega (arith, c.well_formed.0.1.1.1.0.1.0.1) in
-    let b : o.n ≤ length s.notes = omega (arith, c.well_formed.0.1.1.1.1.0.1.0.1) in
-    let cut_at = c.min.ensures ∙ ap (λ (k : ℕ). min (get_or s.counts o.p 0) (k - o.n)) (sym c.well_formed.0.1.1.1.1.0.1.0.1) in
+    let k : parts.result ≤ length s.counts = omega arith in
+    let b : o.n ≤ length s.notes = omega arith in
+    let cut_at = c.min.ensures ∙ ap (λ (k : ℕ). min (get_or s.counts o.p 0) (k - o.n)) (sym (let it : length s.notes ≡ 2048 = omega arith in it)) in
     let ends = part_begins c.args.rate (releases_of (instruments_of s)) s.counts parts.result s.notes o.p o.n c.min.result _ h k b cut_at refl in
     let tests = played_begins (note_passes c.args.rate (instruments_of s)) s.counts parts.result s.notes o.p o.n c.min.result _ h k b cut_at refl in
     (omega arith, omega arith, ap (max o.end) (sym ends) ∙ o.invariant.1, sym tests ∙ o.invariant.2)
 
 pub returns-then-not-note_passes : goal.returns-then-not-note_passes
 returns-then-not-note_passes c =
-    let s = c.args.sheet in
+    let s = c.args.sheet.now in
     let has = c.min-instruments in
-    let there : c.loop-p.n + c.min.result ≤ length s.notes = omega (arith, c.well_formed.0.1.1.1.1.0.1.0.1, stop_within c.loop-p.n c.min.result _ c.min.ensures c.loop-p.invariant.0) in
-    let release = release_is s.table s.instruments c.well_formed.0.1.1.1.1.1.1.0.1.0.1 has.result _ c.min-place.result _ _ has.ensures c.min-place.ensures c.released-release.ensures in
-    let passes = note_is _ (get_or s.notes c.loop-k.k none) _ has.result _ _ _ (instruments_are s.table s.instruments c.well_formed.0.1.1.1.1.1.1.0.1.0.1 has.result has.ensures) release
+    let there : c.loop-p.n + c.min.result ≤ length s.notes = omega (arith, stop_within c.loop-p.n c.min.result _ c.min.ensures c.loop-p.invariant.0) in
+    let release = release_is s.table s.instruments (omega arith) has.result _ c.min-place.result _ _ has.ensures c.min-place.ensures c.released-release.ensures in
+    let passes = note_is _ (get_or s.notes c.loop-k.k none) _ has.result _ _ _ (instruments_are s.table s.instruments (omega arith) has.result has.ensures) release
     (tells _ _ _ c.counted-sounds.ensures c.is_some.ensures) c.note_passes.ensures in
     walk_fails c.args.rate s
     (played_fails (note_passes c.args.rate (instruments_of s)) s.counts c.min-parts.result s.notes c.loop-p.p c.loop-k.k _ none _ _
@@ -85,12 +85,12 @@ overflow_add-start c =
 
 pub loop-k-preserved : goal.loop-k-preserved
 loop-k-preserved c =
-    let s = c.args.sheet in
+    let s = c.args.sheet.now in
     let l = c.loop-k in
     let has = c.min-instruments in
-    let there : c.loop-p.n + c.min.result ≤ length s.notes = omega (arith, c.well_formed.0.1.1.1.1.0.1.0.1, stop_within c.loop-p.n c.min.result _ c.min.ensures c.loop-p.invariant.0) in
-    let release = release_is s.table s.instruments c.well_formed.0.1.1.1.1.1.1.0.1.0.1 has.result _ c.min-place.result _ _ has.ensures c.min-place.ensures c.released-release.ensures in
-    let passes = note_is _ (get_or s.notes c.loop-k.k none) _ has.result _ _ _ (instruments_are s.table s.instruments c.well_formed.0.1.1.1.1.1.1.0.1.0.1 has.result has.ensures) release
+    let there : c.loop-p.n + c.min.result ≤ length s.notes = omega (arith, stop_within c.loop-p.n c.min.result _ c.min.ensures c.loop-p.invariant.0) in
+    let release = release_is s.table s.instruments (omega arith) has.result _ c.min-place.result _ _ has.ensures c.min-place.ensures c.released-release.ensures in
+    let passes = note_is _ (get_or s.notes c.loop-k.k none) _ has.result _ _ _ (instruments_are s.table s.instruments (omega arith) has.result has.ensures) release
     (tells _ _ _ c.counted-sounds.ensures c.is_some.ensures) c.note_passes.ensures in
     let heard = sounds_are _ _ _ c.counted-sounds.ensures c.unwrap_or.ensures in
     let lasts = c.samples-start.ensures in (
@@ -104,7 +104,7 @@ loop-k-preserved c =
 
 pub loop-p-preserved : goal.loop-p-preserved
 loop-p-preserved c =
-    let s = c.args.sheet in
+    let s = c.args.sheet.now in
     let l = c.loop-k in
     let o = c.loop-p in
     let parts = c.min-parts.result in
@@ -116,7 +116,7 @@ loop-p-preserved c =
 
 pub returns : goal.returns
 returns c =
-    let s = c.args.sheet in
+    let s = c.args.sheet.now in
     let parts = c.min-parts.result in
     let l = c.loop-p in
     let e : l.p ≡ parts = omega arith in
