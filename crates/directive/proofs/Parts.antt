@@ -5,12 +5,11 @@ use Prim.Native.Nat.{ℕ, zero, suc, ◌+◌, ◌<◌, min}
 use native.Mathlib.Omega.{arith}
 use lib.ListN.{length, take, drop, get_or, set}
 use Rattle.std.specs.Prelude.{Result}
-use Rattle.sheet.specs.declared.refusal.Refusal.{Refusal}
 use Rattle.environment.specs.declared.environment.Environment.{Environment}
 use Rattle.directive.specs.declared.directive.Directive.{Directive}
 use Rattle.directive.specs.Directives.{applied, applied_to}
 
-module _ (d : Result Directive Refusal) where
+module _ {E : Type 0} (d : Result Directive E) where
   pub none_applied : (es : List Environment) → es ≡ applied_to d 0 es
   unfolding applied_to
   none_applied es = refl

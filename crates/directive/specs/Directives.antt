@@ -73,14 +73,14 @@ directive_outcome line (Ok (Denominator v)) = going (with_denominator v)
 directive_outcome line (Ok (OfKey k)) = going (with_key k)
 directive_outcome line (Err why) = refused (number_of why) line
 
--- the change carried out; a refusal changes nothing
-unfoldable pub applied : Result Directive Refusal → Environment → Environment
+-- the change carried out; a refusal, of whatever kind, changes nothing
+unfoldable pub applied : {E : Type 0} → Result Directive E → Environment → Environment
 applied (Ok (Tempo v)) e = with_tempo v e
 applied (Ok (Denominator v)) e = with_denominator v e
 applied (Ok (OfKey k)) e = with_key k e
 applied (Err why) e = e
 
 -- the same on the first n environments: "A directive changes .. every existing part's"
-unfoldable pub applied_to : Result Directive Refusal → ℕ → List Environment → List Environment
+unfoldable pub applied_to : {E : Type 0} → Result Directive E → ℕ → List Environment → List Environment
 unfolding applied
 applied_to d n es = map (applied d) (take n es) ++ drop n es

@@ -108,9 +108,9 @@ pub fn read_directive(l: &[u8], mode: Mode) -> Result<Directive, Refusal>
     change(name, value, mode)
 }
 
-// The change carried out on an environment. A refusal changes nothing.
+// The change carried out on an environment. A refusal, of whatever kind, changes nothing.
 #[tactic(auto, unfolding(crate::specs::Directives::applied))]
-pub fn apply(d: Result<Directive, Refusal>, env: Environment) -> Environment
+pub fn apply<E: Copy>(d: Result<Directive, E>, env: Environment) -> Environment
     ensures { result ≡ applied d env }
 {
     match d {
@@ -125,8 +125,8 @@ pub fn apply(d: Result<Directive, Refusal>, env: Environment) -> Environment
 }
 
 // The environments of parts with a directive carried out on each of the first n.
-pub fn apply_to_parts(
-    d: Result<Directive, Refusal>,
+pub fn apply_to_parts<E: Copy>(
+    d: Result<Directive, E>,
     mut envs: [Environment; PARTS_MOST],
     n: usize,
 ) -> [Environment; PARTS_MOST]

@@ -108,7 +108,7 @@ pub directive_going : (d : Result Directive Refusal) (line : ℕ) (x : Directive
 unfolding directive_outcome applied
 directive_going d line x e = ap (directive_outcome line) e ∙ (each x ∙ ap (λ (o : Result Directive Refusal). going (applied o)) (sym e))
   where
-    each : (y : Directive) → directive_outcome line (Ok y) ≡ going (applied (Ok y))
+    each : (y : Directive) → directive_outcome line (Ok y) ≡ going (applied {E = Refusal} (Ok y))
     each (Tempo v) = refl
     each (Denominator v) = refl
     each (OfKey k) = refl
@@ -118,7 +118,7 @@ unfolding directive_outcome
 directive_refused d line why e = ap (directive_outcome line) e
 
 -- a directive keeps the octave
-pub applied_octave : (d : Result Directive Refusal) (e : Environment) → (applied d e).octave ≡ e.octave
+pub applied_octave : {E : Type 0} (d : Result Directive E) (e : Environment) → (applied d e).octave ≡ e.octave
 unfolding applied
 applied_octave (Ok (Tempo v)) e = refl
 applied_octave (Ok (Denominator v)) e = refl

@@ -10,10 +10,10 @@ use Rattle.directive.proofs.Parts.{none_applied, applied_more, applied_front, ap
 use Rattle.directive.proofs.directive.apply_to_parts.Goals as goal
 
 pub loop-env-init : goal.loop-env-init
-loop-env-init c = none_applied _ _
+loop-env-init g c = none_applied _ _
 
 pub loop-env-preserved : goal.loop-env-preserved
-loop-env-preserved c =
+loop-env-preserved g c =
     let l = c.loop-env in
     let a = c.args in
     ap (λ (e : Environment). set l.existing l.env-index e) c.apply.ensures
@@ -21,7 +21,7 @@ loop-env-preserved c =
     ∙ applied_more a.d l.env-index (take c.min-most.result a.envs) _ c.loop-env-test.true
 
 pub returns : goal.returns
-returns c =
+returns g c =
     let l = c.loop-env in
     let a = c.args in
     let most = c.min-most.result in
