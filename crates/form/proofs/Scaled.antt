@@ -36,15 +36,15 @@ unfolding clamp
 clamp_is x = two_tests (lt x minus_one) (lt one x) minus_one one x
 
 -- and has three cases
-clamp_below : (x : Float) → lt x minus_one ≡ true → clamp x ≡ minus_one
+pub clamp_below : (x : Float) → lt x minus_one ≡ true → clamp x ≡ minus_one
 unfolding clamp
 clamp_below x t = rw (t, clamp)
 
-clamp_above : (x : Float) → lt x minus_one ≡ false → lt one x ≡ true → clamp x ≡ one
+pub clamp_above : (x : Float) → lt x minus_one ≡ false → lt one x ≡ true → clamp x ≡ one
 unfolding clamp
 clamp_above x t u = rw (t, u, clamp)
 
-clamp_between : (x : Float) → lt x minus_one ≡ false → lt one x ≡ false → clamp x ≡ x
+pub clamp_between : (x : Float) → lt x minus_one ≡ false → lt one x ≡ false → clamp x ≡ x
 unfolding clamp
 clamp_between x t u = rw (t, u, clamp)
 

@@ -1,5 +1,5 @@
 -- What the check answers tells whether the sheet passes, and then its length. Assumes nothing.
-use Rattle.std.proofs.Common.{◌≡◌, ℕ, Bool, true, false, Ok, Err, refl, ap}
+use Rattle.std.proofs.Common.{◌≡◌, ℕ, Bool, true, false, Result, Ok, Err, refl, ap, ◌∙◌}
 use Rattle.sheet.specs.declared.refusal.Refusal.{Refusal}
 use Rattle.sheet.specs.declared.refusal.Refusal.TheVariants.{NoSheet}
 use Rattle.sheet.specs.declared.sheet.Sheet.{Sheet}
@@ -27,3 +27,7 @@ module _ (rate : ℕ) (s : Sheet) where
   pub check_counts : is_sheet rate s ≡ true → checked_of rate s ≡ Ok (length_of rate s)
   unfolding checked_of
   check_counts e = ap (λ (b : Bool). counted_if b (length_of rate s)) e
+
+  -- so an answer for a sheet that passes is its length
+  pub checked_length : (r : Result ℕ Refusal) → r ≡ checked_of rate s → is_sheet rate s ≡ true → r ≡ Ok (length_of rate s)
+  checked_length r e t = e ∙ check_counts t

@@ -1,6 +1,7 @@
 -- Filling a slice from the front: with i values mixed in, n more make i + n. Nothing here looks at what the values are.
 -- Assumes nothing.
-use Rattle.std.proofs.Common.{◌≡◌, ℕ, zero, suc, ◌+◌, ◌-◌, ◌<◌, ◌≤◌, Bool, true, false, ltb, List, [], ◌∷◌, ◌++◌, length, slice_range, get_or, take, drop, pos, sym, refl, ap, ◌∙◌, ap₂, le_of_suc-le-suc, not-suc-le-zero, add-zero, add-suc, suc-add, zero-add, arith, rules, length-append, length-drop, length-take-le, get_or-drop, get_or-take, get_or-append-add, ext_get_or, ltb-false, ltb-true}
+use Rattle.std.proofs.Common.{◌≡◌, ℕ, zero, suc, ◌+◌, ◌-◌, ◌<◌, ◌≤◌, Bool, true, false, ltb, List, [], ◌∷◌, ◌++◌, length, slice_range, get_or, take, drop, set, pos, sym, refl, ap, ◌∙◌, ap₂, le_refl, le_of_lt, le_of_suc-le-suc, not-suc-le-zero, add-zero, add-suc, suc-add, zero-add, add-one, arith, rules, length-append, length-drop, length-take-le, drop-cons, take-suc, get_or-drop, get_or-take, get_or-append-add, ext_get_or, ltb-false, ltb-true}
+use lib.Seq.{set_at, append_snoc}
 use borrow.Rule.Slice.PartMut.{put_mid}
 use lib.ListN.{get_or-append}
 use lib.Ieee.{Float, nan, binary32, mul, div, of_int}
@@ -54,6 +55,45 @@ module _ (v : ℕ → Float) (added : ℕ) where
         let o : k ≡ length F + (k - i) = omega (arith, new_length) in
         let q : i + (k - i) ≡ k = omega arith in
         ap (λ (m : ℕ). get_or (F ++ drop i xs) m nan) o ∙ get_or-append-add F (drop i xs) (k - i) nan ∙ get_or-drop i xs (k - i) nan ∙ ap (λ (m : ℕ). get_or xs m nan) q
+
+  -- ---- one store
+
+  -- one more element at the end
+  mixed_snoc : (j : ℕ) (xs : List Float) (x : Float)
+      → mixed_from v added j (xs ++ (x ∷ [])) ≡ mixed_from v added j xs ++ (mixed added (j + length xs) x (v (j + length xs)) ∷ [])
+  unfolding mixed_from
+  mixed_snoc j [] x = ap (λ (n : ℕ). mixed added n x (v n) ∷ []) (sym (add-zero j))
+  mixed_snoc j (y ∷ ys) x =
+      ap (λ (l : List Float). mixed added j y (v j) ∷ l)
+      (mixed_snoc (suc j) ys x ∙ ap (λ (n : ℕ). mixed_from v added (suc j) ys ++ (mixed added n x (v n) ∷ [])) (suc-add j (length ys) ∙ sym (add-suc j (length ys))))
+
+  -- what still stands at place i
+  pub front_at : (i : ℕ) (xs : List Float) → i < length xs → get_or (Front v added i xs) i nan ≡ get_or xs i nan
+  front_at i xs h = front_old i xs (le_of_lt h) i (le_refl i)
+
+  -- the next value
+  pub front_more : (i : ℕ) (xs : List Float) (y : Float) → i < length xs → y ≡ mixed added i (get_or xs i nan) (v i) → set (Front v added i xs) i y ≡ Front v added (i + 1) xs
+  unfolding Front
+  front_more i xs y h e =
+      let F = mixed_from v added 0 (take i xs) in
+      let n : length F ≡ i = length_mixed 0 (take i xs) ∙ length-take-le i xs (le_of_lt h) in
+      let m : mixed_from v added 0 (take (suc i) xs) ≡ F ++ (y ∷ []) =
+      ap (mixed_from v added 0) (take-suc xs i nan h)
+      ∙ mixed_snoc 0 (take i xs) (get_or xs i nan)
+      ∙ ap (λ (k : ℕ). F ++ (mixed added k (get_or xs i nan) (v k) ∷ [])) (zero-add (length (take i xs)) ∙ length-take-le i xs (le_of_lt h))
+      ∙ ap (λ (z : Float). F ++ (z ∷ [])) (sym e) in
+      ap (λ (l : List Float). set (F ++ l) i y) (drop-cons xs i nan h)
+      ∙ set_at F (get_or xs i nan) (drop (suc i) xs) y i n
+      ∙ sym (append_snoc F y (drop (suc i) xs))
+      ∙ ap (λ (l : List Float). l ++ drop (suc i) xs) (sym m)
+      ∙ ap (λ (k : ℕ). mixed_from v added 0 (take k xs) ++ drop k xs) (sym (add-one i))
+
+  -- the next value, as a loop that reads and stores the slice has it
+  pub front_next : (i : ℕ) (xs out : List Float) (y w : Float) → i < length xs → out ≡ Front v added i xs → y ≡ mixed added i (get_or out i nan) w → w ≡ v i
+      → set out i y ≡ Front v added (i + 1) xs
+  front_next i xs out y w h e m n =
+      ap (λ (o : List Float). set o i y) e
+      ∙ front_more i xs y h (m ∙ ap₂ (mixed added i) (ap (λ (o : List Float). get_or o i nan) e ∙ front_at i xs h) n)
 
 -- n values mixed into the part behind a front of i
 module _ (added : ℕ) (amplitude : Float) (i n : ℕ) (values before part : List Float) (h : i + n ≤ length before)

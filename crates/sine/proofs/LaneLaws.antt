@@ -121,6 +121,22 @@ module _ {A : Type 0} (none : A) (f : A → A) (same : f none ≡ none) where
   lanes_mapped xs ys r =
       ext_get_or none ys (map f xs) (r.size ∙ sym (length-map xs f)) (λ j l. r.done j (omega (arith, r.size)) ∙ sym (lane_mapped xs j))
 
+  -- where the front of a list is mapped, that many lanes are done
+  pub front_mapped : (n : ℕ) (xs ys : List A) → n ≤ length xs → ys ≡ map f (take n xs) → LanesOf none (λ _. f) n xs (ys ++ drop n xs)
+  front_mapped n xs ys l e =
+      record {
+        done = λ j p. get_or-append ys (drop n xs) none j (omega (arith, size)) ∙ ap (λ (zs : List A). get_or zs j none) e ∙ lane_mapped (take n xs) j ∙ ap f (get_or-take n xs j none p);
+        kept =
+            λ j p.
+            let o : j ≡ length ys + (j - n) = omega (arith, size) in
+            let q : n + (j - n) ≡ j = omega arith in
+            ap (λ (k : ℕ). get_or (ys ++ drop n xs) k none) o ∙ get_or-append-add ys (drop n xs) (j - n) none ∙ get_or-drop n xs (j - n) none ∙ ap (λ (k : ℕ). get_or xs k none) q;
+        size = length-append ys (drop n xs) ∙ omega (arith, size, length-drop n xs);
+      }
+    where
+      size : length ys ≡ n
+      size = ap length e ∙ length-map (take n xs) f ∙ length-take-le n xs l
+
   -- and where it is mapped, all lanes are done
   pub mapped_lanes : (xs ys : List A) → ys ≡ map f xs → LanesOf none (λ _. f) (length xs) xs ys
   mapped_lanes xs ys e =
