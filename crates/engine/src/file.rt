@@ -5,6 +5,7 @@ ghost use Rattle.std.specs.Prelude.{◌≡◌, length};
 ghost use Rattle.sheet.specs.Answers.{answered};
 ghost use Rattle.engine.specs.Files.{header_of, header_in};
 
+use form::header::HEADER_BYTES;
 use form::size::Size;
 use handed::check::check;
 use sheet::refusal::Refusal;
@@ -22,6 +23,9 @@ pub fn write_header(
     ensures bytes { buffer.new ≡ header_in size rate sheet buffer.old }
 {
     let samples = check(sheet, rate)?;
-    let written = wave::file::write_header(buffer, size, rate, samples as u32);
-    written.map_err(|_| Refusal::BufferTooShort)
+    if buffer.len() < HEADER_BYTES {
+        return Err(Refusal::BufferTooShort);
+    }
+    let _ = wave::file::write_header(buffer, size, rate, samples as u32);
+    Ok(HEADER_BYTES)
 }

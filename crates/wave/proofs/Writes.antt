@@ -111,6 +111,12 @@ one_more b xs i bs d h g e =
     ∙ put_next b s (2 * i) (sample_bytes x) (bytes_taken xs i (omega arith)) g
     ∙ ap (put b 0) (sym (bytes_more xs i d h)))
 
+-- and of the loop that copies bytes
+pub one_byte_more : (b s : List ℕ) (i d : ℕ) → i < length s → i < length b → set (put b 0 (take i s)) i (get_or s i d) ≡ put b 0 (take (i + 1) s)
+one_byte_more b s i d h g =
+    put_next b (take i s) i (get_or s i d ∷ []) (length-take-le i s (omega arith)) (omega arith)
+    ∙ ap (put b 0) (sym (ap (λ (k : ℕ). take k s) (add-one i) ∙ take-suc s i d h))
+
 -- ---- a header, and samples right after it
 
 -- a buffer that has room takes the header

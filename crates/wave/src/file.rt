@@ -54,7 +54,9 @@ fn store(buffer: &mut [u8], bytes: &[u8])
     requires { length bytes.now ≤ length buffer.old }
     ensures { buffer.new ≡ put buffer.old 0 bytes.now }
 {
-    buffer[..bytes.len()].copy_from_slice(bytes);
+    for (i, byte) in bytes.iter().enumerate() {
+        buffer[i] = *byte;
+    }
 }
 
 // Writes the header of a file of n samples, with the RIFF size of that name, into the buffer's first
