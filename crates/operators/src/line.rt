@@ -14,7 +14,7 @@ use number::digits::eat_int;
 use operator::operator::Operator;
 use sheet::refusal::Refusal;
 use strict::mode::{Mode, has_tail};
-use text::blanks::{blanks_end, ink_end, is_blank};
+use text::blanks::{blanks_end, ink_end};
 use text::parsed::Parsed;
 use text::runs::run_end;
 
@@ -62,13 +62,22 @@ fn check_indent(tabs: usize, before: usize, above: usize) -> Result<(), Refusal>
     Ok(())
 }
 
-// How many tokens a line has.
+// How many tokens a line has. It goes from token to token, since by the pieces between blanks each blank costs a
+// piece.
 fn tokens(text: &[u8]) -> usize
     ensures { result ≡ length (tokens_of text.now) }
 {
-    text.split(|b| is_blank(*b))
-        .filter(|token| !token.is_empty())
-        .count()
+    let mut count: usize = 0;
+    let mut at = 0;
+    while at < text.len() {
+        let from = blanks_end(text, at);
+        if from >= text.len() {
+            return count;
+        }
+        count += 1;
+        at = ink_end(text, from);
+    }
+    count
 }
 
 // The number of the token behind the place `at`; a tail is refused before the next token is looked at.
