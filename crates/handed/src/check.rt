@@ -13,7 +13,7 @@ use sheet::length::samples;
 use sheet::note::Note;
 use sheet::refusal::Refusal;
 use sheet::sheet::{INSTRUMENTS_MOST, NOTES_MOST, PARTS_MOST, Sheet};
-use tone::time::sec_to_len;
+use tone::time::{Uncounted, sec_to_len};
 
 // The most commands of an instrument, the highest feedback of a command, and the most samples of a sheet.
 const COMMANDS_MOST: usize = 64;
@@ -72,7 +72,12 @@ fn notes_in(counts: [usize; PARTS_MOST], parts: usize) -> usize
 fn counted(seconds: f32, rate: u32) -> Option<u64>
     ensures { result ≡ counted_of (length_in rate seconds) }
 {
-    sec_to_len(seconds, rate).ok()
+    match sec_to_len(seconds, rate) {
+        Ok(n) => Some(n),
+        Err(Uncounted::NotANumber) => None,
+        Err(Uncounted::Negative) => None,
+        Err(Uncounted::TooMany) => None,
+    }
 }
 
 // Whether a note passes, of so many instruments, and with its release counted or not.

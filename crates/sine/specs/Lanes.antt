@@ -1,5 +1,5 @@
--- Many values side by side, a lane for each, and what each step of the sine leaves in them. The contracts of `each_lane`,
--- of `all_lanes` and of private functions cite this. Assumes nothing.
+-- Many values side by side, a lane for each, and what each step of the sine leaves in them. The contracts of
+-- `each_lane`, of `all_lanes` and of private functions cite this. Assumes nothing.
 use Rattle.std.specs.Prelude.{◌≡◌, ℕ, ◌^◌, ◌<◌, ◌≤◌, Bool, true, false, T, List, length, EachIndex, is_nan, nat_le, slice_index, slice_index_or, to_bits, Float}
 use Rattle.std.specs.Float.{nan, binary32}
 use Rattle.std.specs.Float.Ieee.{fits, round, unlike}
