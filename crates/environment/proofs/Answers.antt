@@ -18,7 +18,13 @@ outcome_same {A} line (Err v) (Err w) e = ap Err (number_same v w (refused_same 
 
 module _ (line : ℕ) where
   pub value_same : (r q : Result ℕ Refusal) → value_outcome line r ≡ value_outcome line q → r ≡ q
-  value_same r q e = outcome_same line r q e
+  value_same (Ok x) (Ok y) e = ap Ok (going_same _ _ e)
+  value_same (Ok x) (Err w) e = going_apart _ _ _ e
+  value_same (Err v) (Ok y) e = going_apart _ _ _ (sym e)
+  value_same (Err v) (Err w) e = ap Err (number_same v w (refused_same ℕ _ _ _ _ e).0)
 
   pub amplitude_same : (r q : Result Float Refusal) → amplitude_outcome line r ≡ amplitude_outcome line q → r ≡ q
-  amplitude_same r q e = outcome_same line r q e
+  amplitude_same (Ok x) (Ok y) e = ap Ok (going_same _ _ e)
+  amplitude_same (Ok x) (Err w) e = going_apart _ _ _ e
+  amplitude_same (Err v) (Ok y) e = going_apart _ _ _ (sym e)
+  amplitude_same (Err v) (Err w) e = ap Err (number_same v w (refused_same Float _ _ _ _ e).0)

@@ -25,7 +25,13 @@ const SCALE: f32 = 32767.5;
 fn clamped(x: f32) -> f32
     ensures { result ≡ clamp x }
 {
-    x.clamp(-1.0, 1.0)
+    if x < -1.0 {
+        return -1.0;
+    }
+    if x > 1.0 {
+        return 1.0;
+    }
+    x
 }
 
 // The whole part of a float from 0 to 65,535. Added to 2^23, where the floats are the whole numbers,

@@ -119,8 +119,10 @@ fn walk(sheet: &Sheet, rate: u32) -> Result<usize, Refusal>
             if !note_passes(note, instruments, sounds.is_some()) {
                 return Err(Refusal::NoSheet);
             }
-            end = end.max(start + sounds.unwrap_or(0));
-            start += samples(note.duration, rate);
+            let heard = sounds.unwrap_or(0);
+            let lasts = samples(note.duration, rate);
+            end = end.max(start + heard);
+            start += lasts;
         }
         n = stop;
     }

@@ -2,6 +2,8 @@
 // beginnings is read in three functions, each of which has some rows and hands on what is left.
 
 ghost use Rattle.std.specs.Prelude.{◌≡◌, ◌+◌, ◌<◌, length, drop, get_or};
+ghost use Rattle.std.specs.Result.{result_ok};
+ghost use Rattle.text.specs.Parsed.{next_or};
 ghost use Rattle.items.specs.Items.{is_note_letter, note_at, item_at};
 ghost use Rattle.items.specs.Steps.{Stands, rows_from};
 ghost use Rattle.items.specs.Written.{FoundAt, is_call};
@@ -47,6 +49,17 @@ pub enum Item {
     Unknown,
 }
 
+// The place after a decimal that was asked for at a place: that place where there is none.
+fn decimal_end(decimal: Result<Parsed<f32>, NoDecimal>, at: usize) -> usize
+    ensures { result ≡ next_or at (result_ok decimal) }
+{
+    match decimal {
+        Ok(found) => found.next,
+        Err(NoDecimal::Unreadable) => at,
+        Err(NoDecimal::TooLong) => at,
+    }
+}
+
 // Whether b is one of the letters a to g, or r.
 #[tactic(auto, unfolding(crate::specs::Items::is_note_letter))]
 fn is_note_letter(b: u8) -> bool
@@ -88,14 +101,20 @@ fn other_at(text: &[u8], at: usize, b: u8) -> Parsed<Item>
     let (value, next) = match b {
         b'v' => {
             let amplitude = eat_float(text, from);
-            (Item::Amplitude(amplitude), next_or(amplitude.ok(), from))
+            (Item::Amplitude(amplitude), decimal_end(amplitude, from))
         }
         b'k' => {
             let key = key_at(text, from);
             (Item::Key(key), next_or(key, from))
         }
-        b'@' => (Item::Instrument, ink_end(text, from)),
-        b'!' => (Item::Call, ink_end(text, from)),
+        b'@' => {
+            let name_end = ink_end(text, from);
+            (Item::Instrument, name_end)
+        }
+        b'!' => {
+            let name_end = ink_end(text, from);
+            (Item::Call, name_end)
+        }
         _ => (Item::Unknown, from),
     };
     Parsed { value, next }

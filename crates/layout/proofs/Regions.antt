@@ -7,7 +7,7 @@ use native.Mathlib.Nat.{mul-le-mul_left}
 use native.Mathlib.Omega.{arith}
 use lib.Dec.{ltb}
 use lib.ListN.{length, take, drop, length-append, length-drop, take-append-drop}
-use lib.Seq.{length-take-le, take-append-le, drop-append-le, drop-drop, take_at, drop_at}
+use lib.Seq.{length-take-le, take-append-le, drop-append-le, take-take, drop-drop, take_at, drop_at}
 use borrow.Author.Tests.{ltb-true, ltb-false}
 use Rattle.layout.specs.Regions.{region}
 use Rattle.layout.proofs.Cuts.{region_length}
@@ -34,6 +34,13 @@ module _ {A : Type 0} (w k : ℕ) where
     where
       behind : (z : List A) → drop (w * k) z ≡ drop (w * k - n) (drop n z)
       behind z = sym (drop-drop (w * k - n) n z ∙ ap (λ (i : ℕ). drop i z) (let q : n + (w * k - n) ≡ w * k = omega (arith, h) in q))
+
+-- the first region of a region is that region
+pub region_again : {A : Type 0} (w k : ℕ) (xs : List A) → region w 0 (region w k xs) ≡ region w k xs
+unfolding region
+region_again w k xs =
+    ap (λ (n : ℕ). take w (drop n (take w (drop (w * k) xs)))) (let z : w * 0 ≡ 0 = omega arith in z)
+    ∙ take-take w w _ (let z : w ≤ w = omega arith in z)
 
 -- regions do not overlap
 apart : (w j k : ℕ) → j < k → w * j + w ≤ w * k

@@ -62,14 +62,16 @@ pub fn mix(sheet: Sheet, out: &mut [f32], rate: u32, from: usize)
             let place = note.instrument.min(INSTRUMENTS_MOST - 1);
             let release = released(sheet.table[place], note.instrument < instruments);
             let sounds = samples(note.duration + release, rate) as usize;
+            let takes = samples(note.duration, rate) as usize;
+            let end = at + sounds;
             let a = at.saturating_sub(from);
-            let e = (at + sounds).saturating_sub(from).min(out.len());
+            let e = end.saturating_sub(from).min(out.len());
             if a < e {
                 let by = sheet.table[place];
                 mix_note(&table, out, from, by, note, rate, at, a, e, covered);
             }
-            covered = covered.max(at + sounds);
-            at += samples(note.duration, rate) as usize;
+            covered = covered.max(end);
+            at += takes;
         }
         n = stop;
     }

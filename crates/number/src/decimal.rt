@@ -136,7 +136,8 @@ fn judged(whole: &[u8], part: &[u8], next: usize) -> Result<Parsed<f32>, NoDecim
     requires part_digits { front is_digit part.now ≡ part.now }
     ensures { result ≡ judged whole.now part.now next }
 {
-    if whole.len() > DIGITS_MOST || part.len() > DIGITS_MOST - whole.len() {
+    let room = DIGITS_MOST.saturating_sub(whole.len());
+    if whole.len() > DIGITS_MOST || part.len() > room {
         return Err(NoDecimal::TooLong);
     }
     // 18 digits always fit, so this reads both sides

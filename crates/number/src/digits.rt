@@ -24,13 +24,20 @@ fn digit(b: u8) -> u64
     u64::from(b.saturating_sub(b'0'))
 }
 
+// The place after the digits that stand at i: i itself where there is none.
+fn digits_end(s: &[u8], i: usize) -> usize
+    ensures { result ≡ i + length (front is_digit (drop i s.now)) }
+{
+    run_end(s, i, |b| is_digit(b))
+}
+
 // The digits that stand at i.
 pub(crate) fn digits_at(s: &[u8], i: usize) -> &[u8]
     ensures run { result.now ≡ front is_digit (drop i s.now) }
     ensures digits { front is_digit result.now ≡ result.now }
     ensures within { 0 < length result.now → i + length result.now ≤ length s.now }
 {
-    s.get(i..run_end(s, i, |b| is_digit(b))).unwrap_or(&[])
+    s.get(i..digits_end(s, i)).unwrap_or(&[])
 }
 
 // The value of the digits, read after v: none where it is over 2^64 - 1.

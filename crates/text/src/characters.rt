@@ -17,5 +17,13 @@ pub fn stands_at(s: &[u8], i: usize, b: u8) -> bool
 pub fn same_text(s: &[u8], t: &[u8]) -> bool
     ensures { result ≡ same s.now t.now }
 {
-    s == t
+    if s.len() != t.len() {
+        return false;
+    }
+    for at in 0..s.len() {
+        if s[at] != t[at] {
+            return false;
+        }
+    }
+    true
 }

@@ -1,8 +1,7 @@
 -- `instrument_at` lends the regions of an instrument. Assumes nothing.
-use Rattle.std.proofs.Common.{ℕ, List, Float, ap₂, ◌∙◌}
-use Rattle.commands.specs.Commands.{instrument_of, lines_held}
+use Rattle.std.proofs.Common.{◌∙◌, rules}
+use Rattle.layout.proofs.Regions.{region_again}
 use Rattle.bank.proofs.instruments.instrument_at.Goals as goal
 
 pub returns : goal.returns
-returns c =
-    c.instrument_of.ensures ∙ ap₂ (λ (xs : List Float) (ys : List ℕ). instrument_of (lines_held c.args.size xs ys)) c.region.ensures c.region-2.ensures
+returns c = c.instrument_of.ensures ∙ search (rules, region_again)

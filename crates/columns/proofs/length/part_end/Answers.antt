@@ -24,7 +24,7 @@ loop-i-preserved c =
     c.samples.ensures.0
     c.samples-start.ensures.0
     c.samples-start.ensures.1
-    c.max-end.ensures
+    (c.max-end.ensures ∙ omega arith)
 
 pub returns : goal.returns
 returns c =

@@ -21,6 +21,6 @@ pub returns : goal.returns
 unfolding le
 returns c =
     let bytes = le 4 c.args.v in
-    let e : c.copy_from_slice.new.self ≡ bytes = c.copy_from_slice.ensures.after ∙ ap (λ (s : List ℕ). take 4 s) c.to_le_bytes.ensures ∙ lower c.args.v in
+    let e : c.copy_from_slice.new.self ≡ bytes = c.copy_from_slice.ensures.after ∙ ap (λ (s : List ℕ). take 4 s) c.to_le_bytes.ensures ∙ lower _ ∙ ap (le 4) (omega arith) in
     let four : c.args.at + 4 - c.args.at ≡ 4 = omega arith in
     rw e (copied c.args.form bytes c.args.at _ four (omega arith))

@@ -80,7 +80,7 @@ returns-then-not-note_passes c =
 
 pub overflow_add-start : goal.overflow_add-start
 overflow_add-start c =
-    let most = heard_most _ _ _ _ c.counted-sounds.ensures c.unwrap_or.ensures in
+    let most = heard_most _ _ _ _ c.counted-sounds.ensures c.unwrap_or-heard.ensures in
     omega (arith, stop_within c.loop-p.n c.min.result _ c.min.ensures c.loop-p.invariant.0, most)
 
 pub loop-k-preserved : goal.loop-k-preserved
@@ -92,8 +92,8 @@ loop-k-preserved c =
     let release = release_is s.table s.instruments (omega arith) has.result _ c.min-place.result _ _ has.ensures c.min-place.ensures c.released-release.ensures in
     let passes = note_is _ (get_or s.notes c.loop-k.k none) _ has.result _ _ _ (instruments_are s.table s.instruments (omega arith) has.result has.ensures) release
     (tells _ _ _ c.counted-sounds.ensures c.is_some.ensures) c.note_passes.ensures in
-    let heard = sounds_are _ _ _ c.counted-sounds.ensures c.unwrap_or.ensures in
-    let lasts = c.samples-start.ensures in (
+    let heard = sounds_are _ _ _ c.counted-sounds.ensures c.unwrap_or-heard.ensures in
+    let lasts = c.samples-lasts.ensures in (
       omega arith,
       omega (arith, lasts.1),
       note_ends c.args.rate (releases_of (instruments_of s)) s.counts c.min-parts.result s.notes c.loop-p.p l.k _ l.start none c.loop-k-test.true there _ l.end _ _ _ _

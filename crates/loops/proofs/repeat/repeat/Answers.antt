@@ -1,5 +1,6 @@
 -- `loops::repeat::repeat` meets its contract. The loop keeps `Repeating`: up to the place of the next element the column is what
 -- it is to be, and from there on what it was. Assumes nothing.
+use Rattle.std.proofs.Common.{ℕ, get_or, ap, ◌∙◌, arith}
 use Rattle.loops.proofs.Repeats.{laid_none, laid_long, laid_far, repeat_start, repeat_more, repeat_end}
 use Rattle.loops.proofs.repeat.repeat.Goals as goal
 use Rattle.loops.proofs.repeat.repeat.Goals.{
@@ -21,7 +22,8 @@ loop-to-init g c = repeat_start _ _ _ _ c.if-start-n.false c.if-n-xs.false c.if-
 
 pub loop-to-preserved : goal.loop-to-preserved
 loop-to-preserved g c =
-    repeat_more _ _ _ _ c.if-start-n.false c.if-n-xs.false c.if-end-xs.false _ _ _ _ c.loop-to.invariant c.loop-to-test.true c.index-xs-to.is
+    repeat_more _ _ _ _ c.if-start-n.false c.if-n-xs.false c.if-end-xs.false _ _ _ _ c.loop-to.invariant c.loop-to-test.true
+    (c.index-xs-to.is ∙ ap (λ (k : ℕ). get_or c.loop-to.xs k c.index-xs-to.result) (omega arith))
 
 pub returns : goal.returns
 returns g c =

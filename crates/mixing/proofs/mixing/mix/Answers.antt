@@ -69,9 +69,9 @@ loop-k-preserved c =
           ∙ note_none l.covered rate (player_of (instruments_of s) note) note l.at heard c.args.from c.saturating_sub-a.result c.min-e.result l.out
           sounds c.saturating_sub-a.ensures (c.min-e.ensures ∙ ap (λ (k : ℕ). min k (length l.out)) c.saturating_sub.ensures) w.if-a-e.false
     ] in (
-      omega (arith, c.samples.ensures.1),
+      omega (arith, c.samples-takes.ensures.1),
       note_step rate (instruments_of s) s.counts c.min-parts.result s.notes {from = c.args.from} {covered₀ = o.covered} {all = at_note rate (instruments_of s) s.counts c.min-parts.result s.notes o.p o.n stop 0} {out₀ = o.out} o.p l.k stop l.at note no_note l.covered l.out heard _ _ _ refl
-          c.loop-k-test.true there c.samples.ensures.0 sounds c.max-covered.ensures mixed l.invariant.1,
+          c.loop-k-test.true there c.samples-takes.ensures.0 sounds c.max-covered.ensures mixed l.invariant.1,
     )
 
 pub loop-p-preserved : goal.loop-p-preserved

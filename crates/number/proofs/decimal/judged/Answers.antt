@@ -5,13 +5,13 @@ use lib.Ieee.{binary32, round}
 use Rattle.number.specs.Digits.{value_from}
 use Rattle.number.proofs.Decimals.{judged_long, judged_value, before_small, both_small, power_some, power_small}
 use Rattle.number.proofs.decimal.judged.Goals as goal
-use Rattle.number.proofs.decimal.judged.Goals.{then-whole-gt-DIGITS_MOST-via-then-whole-gt-DIGITS_MOST, then-whole-gt-DIGITS_MOST-via-else-whole-gt-DIGITS_MOST+then-part-whole}
+use Rattle.number.proofs.decimal.judged.Goals.{then-whole-gt-DIGITS_MOST-via-then-whole-gt-DIGITS_MOST, then-whole-gt-DIGITS_MOST-via-else-whole-gt-DIGITS_MOST+then-part-room}
 
 pub returns-then-whole-gt-DIGITS_MOST : goal.returns-then-whole-gt-DIGITS_MOST
 returns-then-whole-gt-DIGITS_MOST c =
     elim c.then-whole-gt-DIGITS_MOST.branch [
       | then-whole-gt-DIGITS_MOST-via-then-whole-gt-DIGITS_MOST w ↦ judged_long _ _ _ (omega arith)
-      | then-whole-gt-DIGITS_MOST-via-else-whole-gt-DIGITS_MOST+then-part-whole w ↦ judged_long _ _ _ (omega arith)
+      | then-whole-gt-DIGITS_MOST-via-else-whole-gt-DIGITS_MOST+then-part-room w ↦ judged_long _ _ _ (omega arith)
     ]
 
 pub returns-in_default : goal.returns-in_default

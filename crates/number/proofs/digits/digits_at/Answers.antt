@@ -27,7 +27,7 @@ cut s i end None other n e h = (n ∙ outside s i end e h, λ o. absurd (omega (
 is_run : (c : goal.After-unwrap_or) → Run c.args.s.now c.args.i c.unwrap_or.result.now
 is_run c =
     subst (λ (x : Bor (List ℕ)). Run c.args.s.now c.args.i x.now) (sym c.unwrap_or.ensures)
-    (cut _ _ _ c.get.result _ refl (c.run_end.ensures is_digit (λ b t h e. search rules)) c.get.ensures.lookup.0)
+    (cut _ _ _ c.get.result _ refl c.digits_end.ensures c.get.ensures.lookup.0)
 
 pub returns-clause-run : goal.returns-clause-run
 unfolding Run

@@ -203,7 +203,7 @@ loop-r-preserved c =
     let b = walking_begins _ _ _ _ _ _ _ _ _ _ w _ c.line_at-line.ensures c.loop-r-test.true c.requires.0 in
     let n = c.line_at-line.result in
     let y = c.played-st in
-    let g = stored_walked a.rate a.source.now a.bodies.now a.numbers.now a.shape.now l.r l.floats l.bytes l.loops n.end n.next b w.fits w.tabled c.in-Some.p c.in-Some.ensures c.if-k-ge-PARTS.false c.named.new.loops c.named.ensures c.named.auto.loops at_the_start c.state_of-before.result (c.state_of-before.ensures at_the_start) y.result y.new.floats y.new.bytes y.new.loops y.ensures.body y.ensures.places c.if-st-ne0.false c.max.result c.max.ensures in
+    let g = stored_walked a.rate a.source.now a.bodies.now a.numbers.now a.shape.now l.r l.floats l.bytes l.loops n.end n.next b w.fits w.tabled c.in-Some.p c.in-Some.ensures c.if-k-ge-PARTS.false c.named.new.loops c.named.ensures c.named.auto.loops at_the_start c.state_of-before.result (c.state_of-before.ensures at_the_start) y.result y.new.floats y.new.bytes y.new.loops y.ensures.body y.ensures.places c.if-st-ne0.false c.max.result (c.max.ensures ∙ omega arith) in
     (λ mode. walking_more _ _ _ _ _ _ _ _ _ _ (l.invariant.0 mode) _ _ b _ _ _ _ _ _ (g mode) w.goes, later _ _ _ l.invariant.1 (lined _ _ _ _ b).onward)
 
 pub shape_of-floats : goal.shape_of-floats

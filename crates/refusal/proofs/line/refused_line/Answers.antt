@@ -25,16 +25,16 @@ add_word-requires c =
 
 pub returns-then-text-lt-ROOM-clause-count : goal.returns-then-text-lt-ROOM-clause-count
 returns-then-text-lt-ROOM-clause-count c =
-    (line_none _ _ _ c.if-text-lt-ROOM.true).0
+    (line_none _ _ c.args.text.now (omega arith)).0
 
 pub returns-then-text-lt-ROOM-clause-bytes : goal.returns-then-text-lt-ROOM-clause-bytes
 returns-then-text-lt-ROOM-clause-bytes c =
-    (line_none _ _ _ c.if-text-lt-ROOM.true).1
+    (line_none _ _ c.args.text.now (omega arith)).1
 
 pub returns-clause-count : goal.returns-clause-count
 unfolding bytes
 returns-clause-count c =
-    (let room : 50 ≤ length c.args.text.now = c.if-text-lt-ROOM.false in
+    (let room : 50 ≤ length c.args.text.now = omega arith in
     let made =
     line_made c.args.number c.args.line c.add_word-a.ensures.end c.add_word-a.ensures.bytes c.add_number-b.ensures.end c.add_number-b.ensures.bytes
     c.add_word-c.ensures.end c.add_word-c.ensures.bytes c.add_number-d.ensures.end c.add_number-d.ensures.bytes c.add_word.ensures.end c.add_word.ensures.bytes in
@@ -43,7 +43,7 @@ returns-clause-count c =
 pub returns-clause-bytes : goal.returns-clause-bytes
 unfolding bytes
 returns-clause-bytes c =
-    (let room : 50 ≤ length c.args.text.now = c.if-text-lt-ROOM.false in
+    (let room : 50 ≤ length c.args.text.now = omega arith in
     let made =
     line_made c.args.number c.args.line c.add_word-a.ensures.end c.add_word-a.ensures.bytes c.add_number-b.ensures.end c.add_number-b.ensures.bytes
     c.add_word-c.ensures.end c.add_word-c.ensures.bytes c.add_number-d.ensures.end c.add_number-d.ensures.bytes c.add_word.ensures.end c.add_word.ensures.bytes in

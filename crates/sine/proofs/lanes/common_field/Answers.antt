@@ -1,5 +1,6 @@
 -- `common_field` has the first pattern's field, and asks of the others whether they have it. Assumes nothing.
-use Rattle.std.proofs.Common.{◌≡◌, get_or, sym, ◌∙◌, arith, rules}
+use Rattle.std.proofs.Common.{◌≡◌, ℕ, get_or, sym, ◌∙◌, arith, rules}
+use Rattle.sine.specs.Lanes.{CommonField}
 use Rattle.sine.specs.Phase.{field_of}
 use Rattle.sine.proofs.lanes.common_field.Goals as goal
 
@@ -15,10 +16,12 @@ returns-then-all_lanes c =
 
 pub returns : goal.returns
 returns c =
+    let none : (e : ℕ) → CommonField e c.args.bits.now → ⊥ =
     λ e f.
     let k = (c.all_lanes.ensures 0).fails c.if-all_lanes.false in
     let h = f.same k.0 k.1 in
     let g = f.same 0 f.some in
     let i = k.2 in
     let d : field_of (get_or c.args.bits.now k.0 0) ≡ c.field-e.result → ⊥ = search rules in
-    d (h ∙ sym g ∙ grind (arith))
+    d (h ∙ sym g ∙ grind (arith)) in
+    none
